@@ -1,0 +1,108 @@
+use crate::timing::{beside, Random};
+
+const MOST: u64 = 1 << 32;
+
+extern "C" {
+    fn measure_product(a: *const u32, la: usize, b: *const u32, lb: usize, m: u64, out: *mut u32, lout: usize);
+    fn measure_power(a: u32, n: usize, m: u64) -> u32;
+    fn measure_invert(a: u64, m: u64) -> u64;
+}
+
+// The plain functions test their arguments as the exported ones do and are not inlined: a call costs the same on both sides.
+
+fn reduced(w: u128, m: u64) -> u32 {
+    let (high, low) = ((w >> 64) as u64, w as u64);
+    if high == 0 {
+        return (low % m) as u32;
+    }
+    let x = ((high << 32) | (low >> 32)) % m;
+    (((x << 32) | (low & 0xffff_ffff)) % m) as u32
+}
+
+fn inner_product(a: &[u32], b: &[u32], k: usize, lo: usize, hi: usize, m: u64) -> u32 {
+    let mut w = 0u128;
+    for i in lo..hi {
+        w += (a[i] as u64 * b[k - i] as u64) as u128;
+    }
+    reduced(w, m)
+}
+
+#[inline(never)]
+fn product(a: &[u32], b: &[u32], m: u64, out: &mut [u32]) {
+    if m == 0 || MOST < m || a.len() < out.len() || b.len() < out.len() || 0x7fff_ffff <= out.len() {
+        return;
+    }
+    for k in 0..out.len() {
+        out[k] = inner_product(a, b, k, 0, k + 1, m);
+    }
+}
+
+#[inline(never)]
+fn power(a: u32, n: usize, m: u64) -> u32 {
+    if m == 0 || MOST < m {
+        return 0;
+    }
+    let (mut result, mut square, mut left) = (1 % m, a as u64, n);
+    while left != 0 {
+        if left % 2 == 1 {
+            result = result * square % m;
+        }
+        square = square * square % m;
+        left /= 2;
+    }
+    result as u32
+}
+
+#[inline(never)]
+fn invert(a: u64, m: u64) -> u64 {
+    if m < 2 || MOST < m {
+        return 0;
+    }
+    let (mut x, mut y, mut s, mut t) = (m, a % m, 0u64, 1u64);
+    while y != 0 {
+        let p = t * (x / y) % m;
+        let u = if p <= s { s - p } else { m - p + s };
+        (x, y, s, t) = (y, x % y, t, u);
+    }
+    if x == 1 {
+        s
+    } else {
+        0
+    }
+}
+
+pub fn run() {
+    let mut random = Random(1);
+    for m in [101u64, 2147483647, 1 << 32] {
+        let a: Vec<u32> = (0..512).map(|_| (random.next() % m) as u32).collect();
+        let b: Vec<u32> = (0..512).map(|_| (random.next() % m) as u32).collect();
+        for terms in [8usize, 64, 127] {
+            let (mut ours, mut plain) = (vec![0; terms], vec![0; terms]);
+            beside(
+                &format!("the {terms} coefficients of a product, m = {m}"),
+                100,
+                &mut |i| unsafe {
+                    measure_product(a[i..].as_ptr(), a.len() - i, b.as_ptr(), b.len(), m, ours.as_mut_ptr(), terms);
+                    ours[terms - 1] as u64
+                },
+                &mut |i| {
+                    product(&a[i..], &b, m, &mut plain);
+                    plain[terms - 1] as u64
+                },
+            );
+        }
+        let numbers: Vec<u64> = (0..1000).map(|_| random.next() % m).collect();
+        beside(
+            &format!("power 126, m = {m}"),
+            1000,
+            &mut |i| unsafe { measure_power(numbers[i] as u32, 126, m) as u64 },
+            &mut |i| power(numbers[i] as u32, 126, m) as u64,
+        );
+        beside(
+            &format!("inverse, m = {m}"),
+            1000,
+            &mut |i| unsafe { measure_invert(numbers[i], m) },
+            &mut |i| invert(numbers[i], m),
+        );
+    }
+}

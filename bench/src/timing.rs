@@ -1,0 +1,45 @@
+use std::hint::black_box;
+use std::time::Instant;
+
+const RUNS: usize = 300;
+
+/// Nanoseconds a call: the least over many short runs, so that other work on the machine counts little.
+fn least(calls: usize, f: &mut dyn FnMut(usize) -> u64) -> f64 {
+    let mut best = f64::MAX;
+    for _ in 0..RUNS {
+        let start = Instant::now();
+        let mut sum = 0u64;
+        for i in 0..calls {
+            sum = sum.wrapping_add(f(i));
+        }
+        black_box(sum);
+        best = best.min(start.elapsed().as_nanos() as f64 / calls as f64);
+    }
+    best
+}
+
+/// Compares the answers of both on all inputs, then prints the times of both and their ratio.
+pub fn beside(
+    label: &str,
+    calls: usize,
+    desk: &mut dyn FnMut(usize) -> u64,
+    plain: &mut dyn FnMut(usize) -> u64,
+) {
+    for i in 0..calls {
+        assert_eq!(desk(i), plain(i), "{label}: input {i}");
+    }
+    let (a, b) = (least(calls, desk), least(calls, plain));
+    println!("{label:<52}{a:>12.1}{b:>12.1}{:>8.2}", a / b);
+}
+
+/// A small generator, so that every run has the same inputs.
+pub struct Random(pub u64);
+
+impl Random {
+    pub fn next(&mut self) -> u64 {
+        self.0 = self.0.wrapping_add(0x9e37_79b9_7f4a_7c15);
+        let z = (self.0 ^ (self.0 >> 30)).wrapping_mul(0xbf58_476d_1ce4_e5b9);
+        let z = (z ^ (z >> 27)).wrapping_mul(0x94d0_49bb_1331_11eb);
+        z ^ (z >> 31)
+    }
+}

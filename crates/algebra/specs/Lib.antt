@@ -1,0 +1,5 @@
+pub mod Number
+pub mod Polynomial
+pub mod Pair
+pub mod Change
+pub mod Chain

@@ -1,0 +1,52 @@
+// The leaves that the benchmark times, for Rust. Each answers 0 where what its leaf requires does not hold.
+const MOST: u64 = 0x1_0000_0000;
+
+// The first out.len() coefficients of a product: inner products of every length from 1 on.
+#[no_mangle]
+pub extern "C" fn measure_product(a: &[u32], b: &[u32], m: u64, out: &mut [u32]) {
+    if m == 0 {
+        return;
+    }
+    if MOST < m {
+        return;
+    }
+    if a.len() < out.len() {
+        return;
+    }
+    if b.len() < out.len() {
+        return;
+    }
+    if 0x7fff_ffff <= out.len() {
+        return;
+    }
+    let mut k = 0;
+    while k < out.len() {
+        out[k] = residue::inner_product(a, b, k, 0, k + 1, m);
+        k += 1;
+    }
+}
+
+#[no_mangle]
+pub extern "C" fn measure_power(a: u32, n: usize, m: u64) -> u32 {
+    if m == 0 {
+        return 0;
+    }
+    if MOST < m {
+        return 0;
+    }
+    residue::power(a, n, m)
+}
+
+#[no_mangle]
+pub extern "C" fn measure_invert(a: u64, m: u64) -> u64 {
+    if m < 2 {
+        return 0;
+    }
+    if MOST < m {
+        return 0;
+    }
+    match residue::invert(a, m) {
+        residue::Inverse::Of(x) => x as u64,
+        residue::Inverse::Shared(_) => 0,
+    }
+}

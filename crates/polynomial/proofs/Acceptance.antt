@@ -1,0 +1,96 @@
+-- What the checks let pass.
+--
+--   two-after-one               the checks of two polynomials are those of the first, then 2, 3, 4 for the second
+--   accepted-one, one-accepted  what passes the checks of one polynomial is accepted, and what is accepted passes them
+--   accepted-two, two-accepted  the same for two
+--   degree-fits                 an accepted polynomial is within the desk's limit
+use mathlib.Core.Path.{_≡_, refl, sym, _∙_}
+use mathlib.Core.Bool.{Bool, true, false, _||_}
+use mathlib.Core.List.{List}
+use Prim.Native.Nat.{ℕ, _≤_, _<_}
+use native.Mathlib.Nat.{mod-eq-of-lt}
+use native.Mathlib.Omega.{arith}
+use lib.Dec.{ltb}
+use lib.ListN.{length}
+use borrow.Author.Tests.{ltb-false, eqb-true, not-false, le-ltb, eq-eqb}
+use Rattle.algebra.specs.Polynomial.{coef, limit, terms, degree}
+use Rattle.refusal.specs.Refusal.{_then_}
+use Rattle.refusal.specs.declared.Concerns.{Concerns}
+use Rattle.refusal.specs.declared.Concerns.the-variants.{First, Second}
+use Rattle.refusal.specs.declared.Outcome.the-variants.{Answered}
+use Rattle.refusal.proofs.Outcomes.{then-both, then-assoc, refuse-answered}
+use Rattle.polynomial.specs.Checks.{smallest, largest, offending, check-modulus, check-coefficients, check-degree, check-leading, check-polynomial, check-one, check-two, Accepted}
+use Rattle.polynomial.proofs.Lowest.{offending-none, none-offending}
+use Rattle.algebra.proofs.Highest.{degree-below, degree-above}
+
+-- the checks of two polynomials are those of the first, then 2, 3, 4 for the second
+pub two-after-one : (m : ℕ) (f h : List ℕ) → check-two m f h ≡ (check-one m f then check-polynomial Second m h)
+unfolding check-one check-two
+two-after-one m f h = sym (then-assoc (check-modulus m) (check-polynomial First m f) (check-polynomial Second m h))
+
+neither : (s t : Bool) → (s || t) ≡ false → (s ≡ false) × (t ≡ false)
+neither true t h = (h, cc)
+neither false t h = (refl, h)
+
+accepted-modulus : (m : ℕ) → check-modulus m ≡ Answered → (smallest ≤ m) × (m ≤ largest)
+unfolding check-modulus
+accepted-modulus m h =
+    let (low, high) = neither (ltb m smallest) (ltb largest m) (refuse-answered _ _ _ h) in
+    (ltb-false _ _ low, ltb-false _ _ high)
+
+modulus-accepted : {m : ℕ} → smallest ≤ m → m ≤ largest → check-modulus m ≡ Answered
+unfolding check-modulus
+modulus-accepted l h = simp (le-ltb _ _ l, le-ltb _ _ h)
+
+accepted-polynomial : (c : Concerns) {m : ℕ} {f : List ℕ} → length f ≡ terms → check-modulus m ≡ Answered → check-polynomial c m f ≡ Answered → Accepted m f
+unfolding check-polynomial check-coefficients check-degree check-leading
+accepted-polynomial c {m} {f} long o h =
+    let (low, high) = accepted-modulus m o in
+    let (two, three-four) = then-both (check-coefficients c m f) _ h in
+    let (three, four) = then-both (check-degree c f) (check-leading c f) three-four in
+    let passed = offending-none m f (ltb-false _ _ (refuse-answered _ _ _ two)) in
+    let lead : coef f (degree f) ≡ 1 = eqb-true _ _ (not-false _ (refuse-answered _ _ _ four)) in
+    record {
+      low = low;
+      high = high;
+      reduced = record { long = long; below = λ i l. passed .below i (omega arith) };
+      monic = record { top = rw lead; above = λ i l. rw (degree-above f i l) };
+      two = ltb-false _ _ (refuse-answered _ _ _ three);
+    }
+
+polynomial-accepted : (c : Concerns) {m : ℕ} {f : List ℕ} → Accepted m f → check-polynomial c m f ≡ Answered
+unfolding smallest terms check-polynomial check-coefficients check-degree check-leading
+polynomial-accepted c {m} {f} a =
+    let none : offending m f ≡ length f = none-offending m f (record { below = λ i l. a .reduced .below i (omega arith) }) in
+    let small : coef f (degree f) < m = a .reduced .below (degree f) (omega (arith, degree-below f (omega arith))) in
+    let lead : coef f (degree f) ≡ 1 = sym (mod-eq-of-lt small) ∙ a .monic .top ∙ mod-eq-of-lt (omega arith) in
+    simp (le-ltb (offending m f) (length f) (omega arith), le-ltb (degree f) 2 (a .two), eq-eqb _ _ lead)
+
+-- what passes the checks of one polynomial is accepted
+pub accepted-one : {m : ℕ} {f : List ℕ} → length f ≡ terms → check-one m f ≡ Answered → Accepted m f
+unfolding check-one
+accepted-one {m} {f} long h =
+    let (one, others) = then-both (check-modulus m) (check-polynomial First m f) h in
+    accepted-polynomial First long one others
+
+-- what is accepted passes them
+pub one-accepted : {m : ℕ} {f : List ℕ} → Accepted m f → check-one m f ≡ Answered
+unfolding check-one
+one-accepted a = simp (modulus-accepted (a .low) (a .high), polynomial-accepted First a)
+
+-- what passes the checks of two polynomials is accepted
+pub accepted-two : {m : ℕ} {f h : List ℕ} → length f ≡ terms → length h ≡ terms → check-two m f h ≡ Answered → Accepted m f × Accepted m h
+unfolding check-one
+accepted-two {m} {f} {h} long long-h e =
+    let (first, second) = then-both (check-one m f) (check-polynomial Second m h) (sym (two-after-one m f h) ∙ e) in
+    let (one, others) = then-both (check-modulus m) (check-polynomial First m f) first in
+    (accepted-one long first, accepted-polynomial Second long-h one second)
+
+-- two that are accepted pass them
+pub two-accepted : {m : ℕ} {f h : List ℕ} → Accepted m f → Accepted m h → check-two m f h ≡ Answered
+two-accepted {m} {f} {h} a b = two-after-one m f h ∙ simp (one-accepted a, polynomial-accepted Second b)
+
+-- an accepted polynomial is within the desk's limit
+pub degree-fits : {m : ℕ} {f : List ℕ} → Accepted m f → degree f ≤ limit
+unfolding terms
+degree-fits {m} {f} a = omega (arith, degree-below f (omega arith))

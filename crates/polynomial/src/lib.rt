@@ -1,0 +1,106 @@
+// A polynomial of the desk: its limit, its degree, and the checks 1 to 4 of 01 in their order.
+ghost use mathlib.Core.Path.{_≡_};
+ghost use lib.ListN.{length};
+ghost use Rattle.algebra.specs.Polynomial.{terms, degree as degree-of};
+ghost use Rattle.polynomial.specs.Checks.{offending as offending-power, check-modulus, check-polynomial, check-one, check-two};
+use refusal::Concerns;
+use refusal::Outcome;
+use refusal::Reason;
+
+// The highest degree that the desk takes.
+pub const LIMIT: usize = 126;
+
+// How many coefficients a polynomial has.
+pub const TERMS: usize = LIMIT + 1;
+
+// The moduli that the desk takes.
+const SMALLEST: u32 = 2;
+
+const LARGEST: u32 = 2147483647;
+
+// The coefficients, that of x^0 first.
+pub type Coefficients = [u32; TERMS];
+
+// The largest power whose coefficient is not zero, and 0 if there is none.
+pub fn degree(f: &[u32]) -> usize
+    ensures { λ r. ⌜ r ≡ degree-of (now (f .entry)) ⌝ }
+{
+    let mut d = f.len();
+    while d != 0 {
+        d -= 1;
+        if f[d] != 0 {
+            return d;
+        }
+    }
+    0
+}
+
+// The lowest power whose coefficient is m or more, and the length of f if there is none.
+fn offending(m: u32, f: &[u32]) -> usize
+    ensures { λ r. ⌜ r ≡ offending-power m (now (f .entry)) ⌝ }
+{
+    let mut i = 0;
+    while i < f.len() {
+        if m <= f[i] {
+            return i;
+        }
+        i += 1;
+    }
+    i
+}
+
+// No. 1.
+pub fn check_modulus(m: u32) -> Outcome
+    ensures { λ r. ⌜ r ≡ check-modulus m ⌝ }
+{
+    if m < SMALLEST {
+        return refusal::refused(Concerns::Neither, Reason::Modulus);
+    }
+    if LARGEST < m {
+        return refusal::refused(Concerns::Neither, Reason::Modulus);
+    }
+    Outcome::Answered
+}
+
+// Nos. 2, 3 and 4 of a polynomial, whose degree the caller has found.
+pub fn check_polynomial(concerns: Concerns, m: u32, f: &[u32], degree: usize) -> Outcome
+    requires { ⌜ (length (now f) ≡ terms) × (degree ≡ degree-of (now f)) ⌝ }
+    ensures { λ r. ⌜ r ≡ check-polynomial concerns m (now (f .entry)) ⌝ }
+{
+    let i = offending(m, f);
+    if i < f.len() {
+        return refusal::refused(concerns, Reason::Coefficient(i as u32));
+    }
+    if degree < 2 {
+        return refusal::refused(concerns, Reason::Degree);
+    }
+    if f[degree] != 1 {
+        return refusal::refused(concerns, Reason::Leading);
+    }
+    Outcome::Answered
+}
+
+// The checks of an operation on one polynomial.
+pub fn check_one(m: u32, f: &[u32], degree: usize) -> Outcome
+    requires { ⌜ (length (now f) ≡ terms) × (degree ≡ degree-of (now f)) ⌝ }
+    ensures { λ r. ⌜ r ≡ check-one m (now (f .entry)) ⌝ }
+{
+    let o = check_modulus(m);
+    if refusal::refuses(o) {
+        return o;
+    }
+    check_polynomial(Concerns::First, m, f, degree)
+}
+
+// The checks of an operation on two polynomials, f the first and h the second.
+pub fn check_two(m: u32, f: &[u32], n: usize, h: &[u32], s: usize) -> Outcome
+    requires { ⌜ (length (now f) ≡ terms) × (n ≡ degree-of (now f)) ⌝ }
+    requires { ⌜ (length (now h) ≡ terms) × (s ≡ degree-of (now h)) ⌝ }
+    ensures { λ r. ⌜ r ≡ check-two m (now (f .entry)) (now (h .entry)) ⌝ }
+{
+    let o = check_one(m, f, n);
+    if refusal::refuses(o) {
+        return o;
+    }
+    check_polynomial(Concerns::Second, m, h, s)
+}

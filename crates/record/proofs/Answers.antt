@@ -1,0 +1,91 @@
+-- The answer of the record check.
+--
+--   short-checked      fewer bytes than a record has: No. 9 and nothing else is the answer
+--   refused-checked    a whole record, and its checks refuse: their refusal and nothing else is the answer
+--   answered-checked   a whole record, and its checks pass: its words and the degree are the answer
+--   check-unique       two answers that satisfy the contract are equal
+--   first-bytes        the answer comes from the first record-bytes bytes
+use mathlib.Core.Path.{_≡_, refl, sym, _∙_, ap}
+use mathlib.Core.Bool.{true, false}
+use mathlib.Core.List.{List}
+use Prim.Native.Nat.{ℕ, _+_, _*_, _≤_, _<_}
+use native.Mathlib.Decide.{decLe}
+use native.Mathlib.Omega.{arith}
+use borrow.Author.Tests.{lt-ltb, le-ltb}
+use lib.ListN.{length, take}
+use lib.Seq.{getD-take, take-all, length-take-le}
+use Rattle.algebra.specs.Polynomial.{terms, degree}
+use Rattle.refusal.specs.Refusal.{refusal, is-refused}
+use Rattle.refusal.specs.declared.Concerns.the-variants.{Neither}
+use Rattle.refusal.specs.declared.Reason.the-variants.{Short}
+use Rattle.refusal.specs.declared.Outcome.{Outcome}
+use Rattle.refusal.specs.declared.Outcome.the-variants.{Answered, Refused}
+use Rattle.refusal.proofs.Outcomes.{answered}
+use Rattle.polynomial.specs.Checks.{check-one}
+use Rattle.algebra.proofs.Numbers.{table-ext}
+use Rattle.record.specs.Record.{word, record-bytes, coefficients, check-record, nothing, answer, checked}
+use Rattle.record.specs.declared.Checked.{Checked}
+
+module _ (b : List ℕ) where
+  -- fewer bytes than a record has: No. 9 and nothing else is the answer
+  pub short-checked : {o : Outcome} → length b < record-bytes → o ≡ refusal Neither Short → nothing o ≡ checked b
+  unfolding checked check-record
+  short-checked h e = simp (lt-ltb _ _ h, e)
+
+  enough : record-bytes ≤ length b → check-record b ≡ check-one (word b 0) (coefficients b)
+  unfolding check-record
+  enough l = simp (le-ltb _ _ l)
+
+  refused-answer : (o : Outcome) → is-refused o ≡ true → nothing o ≡ answer o b
+  refused-answer Answered h = cc
+  refused-answer (Refused r) h = refl
+
+  module _ {m : ℕ} {f : List ℕ} {o : Outcome} (long : record-bytes ≤ length b) (m-is : m ≡ word b 0) (f-is : f ≡ coefficients b) (o-is : o ≡ check-one m f) where
+    outcome : check-record b ≡ o
+    outcome = enough long ∙ (simp (← m-is, ← f-is)) ∙ sym o-is
+
+    -- a whole record, and its checks refuse: their refusal and nothing else is the answer
+    pub refused-checked : is-refused o ≡ true → nothing o ≡ checked b
+    unfolding checked
+    refused-checked h = rw outcome (refused-answer o h)
+
+    -- a whole record, and its checks pass: its words and the degree are the answer
+    pub answered-checked : {n : ℕ} → n ≡ degree f → is-refused o ≡ false
+        → _≡_ {A = Checked} (record { outcome = o; modulus = m; polynomial = f; degree = n }) (checked b)
+    unfolding checked
+    answered-checked n-is h = simp (outcome, answered {a = o} h, n-is, ← m-is, ← f-is)
+
+-- two answers that satisfy the contract are equal
+pub check-unique : (b : List ℕ) {x y : Checked} → x ≡ checked b → y ≡ checked b → x ≡ y
+check-unique b p q = p ∙ sym q
+
+word-take : (n i : ℕ) (b : List ℕ) → 4 * i + 4 ≤ n → word (take n b) i ≡ word b i
+unfolding word
+word-take n i b l =
+    simp (getD-take n b (4 * i) 0 (omega arith), getD-take n b (4 * i + 1) 0 (omega arith), getD-take n b (4 * i + 2) 0 (omega arith), getD-take n b (4 * i + 3) 0 (omega arith))
+
+take-coefficients : (b : List ℕ) → coefficients (take record-bytes b) ≡ coefficients b
+unfolding coefficients record-bytes
+take-coefficients b = table-ext terms _ _ (λ k l. word-take record-bytes (k + 1) b (omega arith))
+
+-- an answer shows no more of the bytes than the words
+same-answer : (b b′ : List ℕ) (o : Outcome) → word b 0 ≡ word b′ 0 → coefficients b ≡ coefficients b′ → answer o b ≡ answer o b′
+same-answer b b′ Answered w f = simp (w, f)
+same-answer b b′ (Refused r) w f = refl
+
+take-checked : (b : List ℕ) → checked (take record-bytes b) ≡ checked b
+unfolding checked record-bytes
+take-checked b = go (decLe record-bytes (length b))
+  where
+    go : Dec (record-bytes ≤ length b) → checked (take record-bytes b) ≡ checked b
+    go (yes l) =
+        let w : word (take record-bytes b) 0 ≡ word b 0 = word-take record-bytes 0 b (omega arith) in
+        let e : length (take record-bytes b) ≡ record-bytes = length-take-le record-bytes b l in
+        let o : check-record (take record-bytes b) ≡ check-record b
+        = enough (take record-bytes b) (omega arith) ∙ (simp (w, take-coefficients b)) ∙ sym (enough b l) in
+        simp o (same-answer (take record-bytes b) b (check-record b) w (take-coefficients b))
+    go (no l) = ap checked (take-all record-bytes b (omega arith))
+
+-- the answer comes from the first record-bytes bytes
+pub first-bytes : (b b′ : List ℕ) → take record-bytes b ≡ take record-bytes b′ → checked b ≡ checked b′
+first-bytes b b′ e = sym (take-checked b) ∙ ap checked e ∙ take-checked b′

@@ -1,0 +1,7 @@
+pub mod Congruent
+pub mod Euclid
+pub mod Inner
+pub mod Inverses
+pub mod Powers
+pub mod Sizes
+pub mod Words

@@ -1,0 +1,14 @@
+use native.Mathlib.Omega.{arith}
+use borrow.Author.Needs.{needs}
+use Rattle.residue.proofs.Congruent.{from-eq, wrapped, remainder}
+use Rattle.residue.proofs.add.Statement.{statement}
+use Rattle.residue.proofs.add.Tie as tie
+
+returns : tie.Need-returns
+returns c = remainder (omega arith) (from-eq (omega arith))
+
+returns-2 : tie.Need-returns-2
+returns-2 c = remainder (omega arith) (wrapped (omega arith))
+
+pub add-spec : {M : Type 1} → statement M
+add-spec = tie.close (tie.spec (λ c. search needs) (λ c. search needs) (λ c. search needs) returns returns-2)

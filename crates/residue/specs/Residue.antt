@@ -1,0 +1,38 @@
+-- What the search for an inverse answers, and the sum that every loop over coefficients takes.
+--
+--   InverseIs a m r          r is the inverse of a modulo m, or the factor above 1 that a and m share
+--   inner a b k lo n         a(lo)·b(k - lo) + a(lo + 1)·b(k - lo - 1) + .., n terms, not reduced
+--   Within la lb k lo hi     for i from lo to hi - 1, i lies in a list of length la and k - i in one of length lb
+--   strided a b lo at step n a(lo)·b(at) + a(lo + 1)·b(at + step) + .., n terms, not reduced
+--   Strides n at step lb     the n places at, at + step, .. lie in a list of length lb
+use mathlib.Core.Path.{_≡_}
+use mathlib.Core.List.{List}
+use Prim.Native.Nat.{ℕ, _+_, _-_, _*_, _%_, _≤_, _<_}
+use Rattle.algebra.specs.Number.{GreatestFactor, sum}
+use Rattle.algebra.specs.Polynomial.{coef}
+use Rattle.residue.specs.declared.Inverse.{Inverse}
+use Rattle.residue.specs.declared.Inverse.the-variants.{Of, Shared}
+
+-- the inverse below m, or the greatest common factor where it is above 1
+abbrev pub InverseIs : ℕ → ℕ → Inverse → Type 0
+InverseIs a m (Of x) = (x < m) × (a * x % m ≡ 1)
+InverseIs a m (Shared d) = (1 < d) × GreatestFactor a m d
+
+-- n products a(i)·b(k - i), for i from lo on, added up
+unfoldable pub inner : List ℕ → List ℕ → ℕ → ℕ → ℕ → ℕ
+inner a b k lo n = sum n (λ i. coef a (lo + i) * coef b (k - (lo + i)))
+
+-- every index of the sum is there
+pub record Within (la lb k lo hi : ℕ) : Type 0 where
+  pub order : lo ≤ hi
+  pub first : hi ≤ la
+  pub down : hi ≤ k + 1
+  pub second : k < lb + lo
+
+-- n products a(lo + i)·b(at + i·step), added up
+unfoldable pub strided : List ℕ → List ℕ → ℕ → ℕ → ℕ → ℕ → ℕ
+strided a b lo at step n = sum n (λ i. coef a (lo + i) * coef b (at + i * step))
+
+-- every place of the second list is there
+pub record Strides (n at step lb : ℕ) : Type 0 where
+  pub inside : (i : ℕ) → i < n → at + i * step < lb

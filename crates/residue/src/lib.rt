@@ -1,0 +1,174 @@
+// Numbers modulo m in code, for any modulus up to 2^32, prime or not.
+//
+//   add, subtract, multiply, power   one result below m
+//   invert                           the inverse, or the greatest common factor that is in the way
+//   inner_product                    a[lo]*b[k-lo] + .. + a[hi-1]*b[k-hi+1]: exact, and reduced once at the end
+//   strided_product                  a[lo]*b[at] + a[lo+1]*b[at+step] + ..: the same of numbers that lie apart
+ghost use mathlib.Core.Path.{_≡_};
+ghost use Prim.Native.Nat.{ℕ, _+_, _-_, _*_, _%_, _^_, _≤_, _<_};
+ghost use lib.ListN.{length};
+ghost use Rattle.residue.specs.Residue.{InverseIs, inner, Within, strided, Strides};
+
+// a + b modulo m.
+pub fn add(a: u32, b: u32, m: u64) -> u32
+    requires { ⌜ (a < m) × (b < m) × (m ≤ 2 ^ 32) ⌝ }
+    ensures { λ r. ⌜ r ≡ (a + b) % m ⌝ }
+{
+    let s = a as u64 + b as u64;
+    if s < m { s as u32 } else { (s - m) as u32 }
+}
+
+// a - b modulo m.
+pub fn subtract(a: u32, b: u32, m: u64) -> u32
+    requires { ⌜ (a < m) × (b < m) × (m ≤ 2 ^ 32) ⌝ }
+    ensures { λ r. ⌜ r ≡ (a + (m - b)) % m ⌝ }
+{
+    if b <= a {
+        a - b
+    } else {
+        (m - b as u64 + a as u64) as u32
+    }
+}
+
+// a * b modulo m.
+pub fn multiply(a: u32, b: u32, m: u64) -> u32
+    requires { ⌜ (0 < m) × (m ≤ 2 ^ 32) ⌝ }
+    ensures { λ r. ⌜ r ≡ a * b % m ⌝ }
+{
+    (a as u64 * b as u64 % m) as u32
+}
+
+// a^n modulo m, by squaring.
+pub fn power(a: u32, n: usize, m: u64) -> u32
+    requires { ⌜ (0 < m) × (m ≤ 2 ^ 32) ⌝ }
+    ensures { λ r. ⌜ r ≡ a ^ n % m ⌝ }
+{
+    let mut result = (1 % m) as u32;
+    let mut square = a;
+    let mut left = n;
+    while left != 0 {
+        if left % 2 == 1 {
+            result = multiply(result, square, m);
+        }
+        square = multiply(square, square, m);
+        left = left / 2;
+    }
+    result
+}
+
+// What the search for an inverse finds: it, or the greatest common factor.
+pub enum Inverse {
+    Of(u32),
+    Shared(u64),
+}
+
+// t - s modulo m.
+fn less(t: u64, s: u64, m: u64) -> u64
+    requires { ⌜ (t < m) × (s < m) × (m ≤ 2 ^ 32) ⌝ }
+    ensures { λ r. ⌜ (r < m) × ((r + s) % m ≡ t % m) ⌝ }
+{
+    if s <= t { t - s } else { m - s + t }
+}
+
+// The inverse of a modulo m, by Euclid's algorithm with coefficients modulo m: no prime is needed and no sign.
+pub fn invert(a: u64, m: u64) -> Inverse
+    requires { ⌜ (1 < m) × (m ≤ 2 ^ 32) ⌝ }
+    ensures { λ r. ⌜ InverseIs a m r ⌝ }
+{
+    let mut x = m;
+    let mut y = a % m;
+    let mut s: u64 = 0;
+    let mut t: u64 = 1;
+    while y != 0 {
+        let u = less(s, t * (x / y) % m, m);
+        let z = x % y;
+        x = y;
+        y = z;
+        s = t;
+        t = u;
+    }
+    if x == 1 {
+        Inverse::Of(s as u32)
+    } else {
+        Inverse::Shared(x)
+    }
+}
+
+// A sum of two words, high * 2^64 + low.
+struct Wide {
+    high: u64,
+    low: u64,
+}
+
+// The sum and one product more.
+fn added(w: Wide, p: u64) -> Wide
+    requires { ⌜ w .high < 2 ^ 63 ⌝ }
+    ensures { λ r. ⌜ (r .high * 2 ^ 64 + r .low ≡ w .high * 2 ^ 64 + w .low + p) × (r .high ≤ w .high + 1) ⌝ }
+{
+    if w.low <= u64::MAX - p {
+        Wide {
+            high: w.high,
+            low: w.low + p,
+        }
+    } else {
+        Wide {
+            high: w.high + 1,
+            low: w.low - (u64::MAX - p) - 1,
+        }
+    }
+}
+
+// The sum modulo m: one division where it fits a word, two where not.
+fn reduced(w: Wide, m: u64) -> u32
+    requires { ⌜ (0 < m) × (m ≤ 2 ^ 32) × (w .high < 2 ^ 31) ⌝ }
+    ensures { λ r. ⌜ r ≡ (w .high * 2 ^ 64 + w .low) % m ⌝ }
+{
+    if w.high == 0 {
+        return (w.low % m) as u32;
+    }
+    let x = (w.high * 0x1_0000_0000 + w.low / 0x1_0000_0000) % m;
+    ((x * 0x1_0000_0000 + w.low % 0x1_0000_0000) % m) as u32
+}
+
+// The whole product.
+fn whole(x: u32, y: u32) -> u64
+    ensures { λ r. ⌜ r ≡ x * y ⌝ }
+{
+    x as u64 * y as u64
+}
+
+// The sum of a[i] * b[k - i] for i from lo to hi - 1, modulo m. The sum is exact: nothing is divided inside the loop.
+pub fn inner_product(a: &[u32], b: &[u32], k: usize, lo: usize, hi: usize, m: u64) -> u32
+    requires { ⌜ Within (length (now a)) (length (now b)) k lo hi ⌝ }
+    requires { ⌜ (0 < m) × (m ≤ 2 ^ 32) × (hi - lo < 2 ^ 31) ⌝ }
+    ensures { λ r. ⌜ r ≡ inner (now (a .entry)) (now (b .entry)) k lo (hi - lo) % m ⌝ }
+{
+    let mut w = Wide { high: 0, low: 0 };
+    for i in lo..hi {
+        w = added(w, whole(a[i], b[k - i]));
+    }
+    reduced(w, m)
+}
+
+// The sum of a[i] * b[at + (i - lo) * step] for i from lo to hi - 1, modulo m: a row against a column.
+pub fn strided_product(
+    a: &[u32],
+    b: &[u32],
+    lo: usize,
+    hi: usize,
+    at: usize,
+    step: usize,
+    m: u64,
+) -> u32
+    requires { ⌜ (lo ≤ hi) × (hi ≤ length (now a)) × Strides (hi - lo) at step (length (now b)) ⌝ }
+    requires { ⌜ (0 < m) × (m ≤ 2 ^ 32) × (hi - lo < 2 ^ 31) × (at < 2 ^ 32) × (step < 2 ^ 32) ⌝ }
+    ensures { λ r. ⌜ r ≡ strided (now (a .entry)) (now (b .entry)) lo at step (hi - lo) % m ⌝ }
+{
+    let mut w = Wide { high: 0, low: 0 };
+    let mut j = at;
+    for i in lo..hi {
+        w = added(w, whole(a[i], b[j]));
+        j += step;
+    }
+    reduced(w, m)
+}

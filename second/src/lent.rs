@@ -1,0 +1,99 @@
+//! Memory lent to the desk: filled with garbage before the call, so that
+//! "writes nothing" is noticed, and fenced on both sides, so that a word
+//! written outside it is noticed too.
+
+use crate::random::Random;
+use std::ptr;
+
+/// Words on either side. 8 words keep whatever is lent at its own alignment
+/// without gaps between fence and field.
+const FENCE: usize = 8;
+
+#[repr(C)]
+struct Fenced<T> {
+    before: [u32; FENCE],
+    field: T,
+    after: [u32; FENCE],
+}
+
+/// One field lent to the desk to write.
+pub struct Lent<T> {
+    // On the heap and reached by pointer only: the desk's pointer is made from
+    // the whole, so that the compiler may not take the fences for unchanged.
+    whole: Box<Fenced<T>>,
+    fence: [u32; FENCE],
+}
+
+/// A word that is no likely answer; in particular it is not zero, which is what
+/// a refusal has to write.
+pub fn garbage(random: &mut Random) -> u32 {
+    random.word() | 1
+}
+
+impl<T> Lent<T> {
+    pub fn new(field: T, random: &mut Random) -> Lent<T> {
+        let fence = [garbage(random); FENCE];
+        Lent {
+            whole: Box::new(Fenced {
+                before: fence,
+                field,
+                after: fence,
+            }),
+            fence,
+        }
+    }
+
+    pub fn pointer(&mut self) -> *mut T {
+        let whole: *mut Fenced<T> = &mut *self.whole;
+        // SAFETY: `whole` points to a live box; only a place is formed.
+        unsafe { ptr::addr_of_mut!((*whole).field) }
+    }
+
+    /// The field as the desk left it.
+    pub fn give_back(self, name: &str) -> Result<T, String> {
+        if self.whole.before != self.fence || self.whole.after != self.fence {
+            return Err(format!("the desk wrote outside {name}"));
+        }
+        Ok(self.whole.field)
+    }
+}
+
+/// Bytes lent to the desk to read. They stand at the very end of a heap
+/// allocation of exactly their size and a few bytes in front: a memory checker
+/// notices a read past the end, and the record is not always aligned.
+pub struct Given {
+    whole: Box<[u8]>,
+    copy: Box<[u8]>,
+    front: usize,
+}
+
+impl Given {
+    pub fn new(bytes: &[u8], random: &mut Random) -> Given {
+        let front = random.between(0, 7);
+        let mut all = random.bytes(front);
+        all.extend_from_slice(bytes);
+        Given {
+            whole: all.clone().into_boxed_slice(),
+            copy: all.into_boxed_slice(),
+            front,
+        }
+    }
+
+    pub fn count(&self) -> usize {
+        self.whole.len() - self.front
+    }
+
+    pub fn pointer(&mut self) -> *const u8 {
+        // SAFETY: `front` is at most the length of the allocation. A writing
+        // pointer is taken, so that the compiler may not take the bytes for
+        // unchanged.
+        unsafe { self.whole.as_mut_ptr().add(self.front) }
+    }
+
+    pub fn give_back(self, name: &str) -> Result<(), String> {
+        if self.whole != self.copy {
+            return Err(format!("the desk changed {name}, which it may only read"));
+        }
+        Ok(())
+    }
+}

@@ -1,0 +1,450 @@
+//! Check a record, which gives its modulus, polynomial and degree.
+
+use super::{Answer, Operation, Own, Worked};
+use crate::desk::{self, Checked};
+use crate::inputs::{self, LOOK_SMALL};
+use crate::polynomial::{Polynomial, PLACES, TOP_DEGREE};
+use crate::random::Random;
+use crate::record::{self, Record, RECORD_BYTES};
+use crate::refused::{Refused, FIRST};
+use crate::residue::TOP_MODULUS;
+use crate::worked;
+
+pub struct Check;
+
+impl Operation for Check {
+    type Input = Vec<u8>;
+    type Answer = Checked;
+
+    const NAME: &'static str = "check";
+    const REFUSALS: &'static [u32] = &[9, 1, 2, 3, 4];
+    const TOGETHER: &'static [(u32, u32)] = &[
+        (9, 1),
+        (9, 2),
+        (9, 3),
+        (9, 4),
+        (1, 2),
+        (1, 3),
+        (1, 4),
+        (2, 3),
+        (2, 4),
+        (3, 4),
+    ];
+
+    fn worked() -> Vec<Worked<Vec<u8>, Checked>> {
+        worked_cases()
+    }
+
+    fn input(index: u64, random: &mut Random) -> Vec<u8> {
+        if index < EDGES {
+            edge(index).bytes()
+        } else if index < EDGES + CUTS {
+            cut(index - EDGES, random)
+        } else {
+            scattered(random)
+        }
+    }
+
+    fn own(bytes: &Vec<u8>) -> Own<Checked> {
+        let record = Record::read_padded(bytes);
+        let due = refusals_due(bytes.len(), &record);
+        let answer = match due.first() {
+            Some(&refused) => refused_with(refused),
+            None => taken(&record),
+        };
+        Own { answer, due }
+    }
+
+    fn desk(bytes: &Vec<u8>, random: &mut Random) -> Result<Checked, String> {
+        desk::check(bytes, random)
+    }
+
+    fn show(bytes: &Vec<u8>) -> String {
+        record::show(bytes)
+    }
+}
+
+impl Answer for Checked {
+    fn refused(&self) -> Refused {
+        self.refused
+    }
+
+    fn lines(&self) -> Vec<(&'static str, String)> {
+        vec![
+            ("refusal", self.refused.to_string()),
+            ("modulus", self.modulus.to_string()),
+            ("degree", self.degree.to_string()),
+            ("f", self.f.to_string()),
+        ]
+    }
+}
+
+// The own answer.
+
+/// Each line of the table that is true, in 01's order: 9, 1, 2, 3, 4.
+///
+/// Of a record that ends too early only 9 is due. What follows it here is what
+/// a check would say that took the missing bytes for zeros: on these inputs it
+/// is seen that 9 comes first.
+fn refusals_due(count: usize, record: &Record) -> Vec<Refused> {
+    let mut due = Vec::new();
+    if count < RECORD_BYTES {
+        due.push(Refused::plain(9));
+    }
+    if record.modulus < 2 || record.modulus > TOP_MODULUS {
+        due.push(Refused::plain(1));
+    }
+    due.extend(record.f.refusals_due(record.modulus, FIRST));
+    due
+}
+
+/// "Returned polynomials are all zero after a refusal, ... degrees and moduli
+/// are 0."
+fn refused_with(refused: Refused) -> Checked {
+    Checked {
+        refused,
+        modulus: 0,
+        f: Polynomial::ZERO,
+        degree: 0,
+    }
+}
+
+fn taken(record: &Record) -> Checked {
+    Checked {
+        refused: Refused::ANSWERED,
+        modulus: record.modulus,
+        f: record.f.clone(),
+        degree: record.f.degree().expect("all zero is refused by 3"),
+    }
+}
+
+// The worked cases. Their answers are written down from 01 and not computed.
+
+fn record_of(modulus: u32, coefficients: &[u32]) -> Record {
+    Record {
+        modulus,
+        f: Polynomial::of(coefficients),
+    }
+}
+
+fn case_taken(
+    name: &'static str,
+    (modulus, coefficients): (u32, &[u32]),
+    degree: usize,
+) -> Worked<Vec<u8>, Checked> {
+    Worked {
+        name,
+        input: record_of(modulus, coefficients).bytes(),
+        answer: Checked {
+            refused: Refused::ANSWERED,
+            modulus,
+            f: Polynomial::of(coefficients),
+            degree,
+        },
+    }
+}
+
+fn case_refused(
+    name: &'static str,
+    (modulus, coefficients): (u32, &[u32]),
+    (number, polynomial, power): (u32, u32, u32),
+) -> Worked<Vec<u8>, Checked> {
+    Worked {
+        name,
+        input: record_of(modulus, coefficients).bytes(),
+        answer: refused_with(Refused {
+            number,
+            polynomial,
+            power,
+        }),
+    }
+}
+
+/// The bytes are written out one by one: were the order of the bytes in a word
+/// mistaken by the desk and by this program's records alike, only this case
+/// would tell. m 258, x^2 + 256x + 1.
+fn case_low_byte_first() -> Worked<Vec<u8>, Checked> {
+    let mut input = vec![2, 1, 0, 0, 1, 0, 0, 0, 0, 1, 0, 0, 1, 0, 0, 0];
+    input.resize(512, 0);
+    Worked {
+        name: "low byte first",
+        input,
+        answer: Checked {
+            refused: Refused::ANSWERED,
+            modulus: 258,
+            f: Polynomial::of(&[1, 256, 1]),
+            degree: 2,
+        },
+    }
+}
+
+fn case_no_bytes() -> Worked<Vec<u8>, Checked> {
+    Worked {
+        name: "no bytes",
+        input: Vec::new(),
+        answer: refused_with(Refused {
+            number: 9,
+            polynomial: 0,
+            power: 0,
+        }),
+    }
+}
+
+fn worked_cases() -> Vec<Worked<Vec<u8>, Checked>> {
+    let square: &[u32] = &[0, 0, 1];
+    vec![
+        case_taken("B", worked::B, 6),
+        case_taken("E", worked::E, 12),
+        case_taken("H", worked::H, 4),
+        case_refused("K, m 1", (1, square), (1, 0, 0)),
+        case_refused("K, m 2147483648", (2_147_483_648, square), (1, 0, 0)),
+        case_taken("K, m 2", (2, square), 2),
+        case_taken("K, m 2147483647", (2_147_483_647, square), 2),
+        case_refused("L, x + 1", (101, &[1, 1]), (3, 1, 0)),
+        // The readings of 01, points 3 and 10.
+        case_refused("2x", (101, &[0, 2]), (3, 1, 0)),
+        case_refused("all zero", (101, &[]), (3, 1, 0)),
+        case_refused("2x^2", (101, &[0, 0, 2]), (4, 1, 0)),
+        case_refused("101 and 102", (101, &[0, 0, 101, 102]), (2, 1, 2)),
+        case_low_byte_first(),
+        case_no_bytes(),
+    ]
+}
+
+// The edges: one record for each combination of the lists below, all other
+// coefficients zero.
+
+const EDGE_MODULI: [u32; 7] = [0, 1, 2, 3, TOP_MODULUS, TOP_MODULUS + 1, u32::MAX];
+const EDGE_DEGREES: [usize; 4] = [0, 1, 2, TOP_DEGREE];
+/// The leading coefficient: 0, 1, 2 or m - 1.
+const EDGE_LEADINGS: u64 = 4;
+/// A further coefficient: m - 1, m, m + 1 or 2^32 - 1.
+const EDGE_VALUES: u64 = 4;
+/// Where it stands: 0, 1, at the degree, one above it, 126.
+const EDGE_POWERS: u64 = 5;
+/// The further coefficients, and none.
+const EDGE_FURTHER: u64 = EDGE_VALUES * EDGE_POWERS + 1;
+const EDGES: u64 = (EDGE_MODULI.len() * EDGE_DEGREES.len()) as u64 * EDGE_LEADINGS * EDGE_FURTHER;
+
+/// Takes a choice out of `of` from the number of a combination.
+fn choose(combination: &mut u64, of: u64) -> u64 {
+    let choice = *combination % of;
+    *combination /= of;
+    choice
+}
+
+fn edge(mut combination: u64) -> Record {
+    let left = &mut combination;
+    let m = EDGE_MODULI[choose(left, EDGE_MODULI.len() as u64) as usize];
+    let degree = EDGE_DEGREES[choose(left, EDGE_DEGREES.len() as u64) as usize];
+    let leading = [0, 1, 2, m.wrapping_sub(1)][choose(left, EDGE_LEADINGS) as usize];
+    let mut record = record_of(m, &[]);
+    record.f.0[degree] = leading;
+    // The last choice is "none".
+    if *left < EDGE_FURTHER - 1 {
+        let power = [0, 1, degree, degree + 1, TOP_DEGREE][choose(left, EDGE_POWERS) as usize];
+        let value =
+            [m.wrapping_sub(1), m, m.wrapping_add(1), u32::MAX][choose(left, EDGE_VALUES) as usize];
+        record.f.0[power.min(TOP_DEGREE)] = value;
+    }
+    record
+}
+
+// The short records: every length from 0 to 511, each of three kinds.
+
+const CUTS: u64 = 3 * RECORD_BYTES as u64;
+
+fn cut(number: u64, random: &mut Random) -> Vec<u8> {
+    let length = (number % RECORD_BYTES as u64) as usize;
+    let mut bytes = match number / RECORD_BYTES as u64 {
+        0 => good(random).bytes(),
+        1 => random.bytes(RECORD_BYTES),
+        _ => several_damages(random),
+    };
+    bytes.truncate(length);
+    bytes
+}
+
+// The rest, at random.
+
+fn scattered(random: &mut Random) -> Vec<u8> {
+    match random.below(16) {
+        0 => random.bytes(RECORD_BYTES),
+        1 => small_words(random),
+        2..=5 => good(random).bytes(),
+        6..=9 => one_damage(random),
+        10..=12 => several_damages(random),
+        13 => one_bit_turned(random),
+        14 => shortened(good(random).bytes(), random),
+        _ => lengthened(random),
+    }
+}
+
+/// A record that is taken.
+fn good(random: &mut Random) -> Record {
+    let modulus = inputs::modulus(random);
+    let f = inputs::polynomial(random, modulus);
+    Record { modulus, f }
+}
+
+/// Words so small that chance alone makes good records and every refusal.
+fn small_words(random: &mut Random) -> Vec<u8> {
+    let mut record = record_of(random.below(6) as u32, &[]);
+    let places = random.between(0, PLACES);
+    let bound = 1 + random.below(5);
+    for place in &mut record.f.0[..places] {
+        *place = random.below(bound) as u32;
+    }
+    record.bytes()
+}
+
+fn one_bit_turned(random: &mut Random) -> Vec<u8> {
+    let mut bytes = good(random).bytes();
+    let byte = random.between(0, RECORD_BYTES - 1);
+    bytes[byte] ^= 1 << random.below(8);
+    bytes
+}
+
+/// More than 512 bytes, good or damaged: what follows is not read. It may look
+/// like a further record. Where the damage was a cut, two pieces are joined:
+/// then the first 512 bytes run across the joint, or there are still too few.
+fn lengthened(random: &mut Random) -> Vec<u8> {
+    let mut bytes = if random.once_in(2) {
+        good(random).bytes()
+    } else {
+        one_damage(random)
+    };
+    if random.once_in(2) {
+        bytes.extend(good(random).bytes());
+    } else {
+        let more = random.between(1, 600);
+        bytes.extend(random.bytes(more));
+    }
+    bytes
+}
+
+fn shortened(mut bytes: Vec<u8>, random: &mut Random) -> Vec<u8> {
+    let length = match random.below(3) {
+        0 => random.pick(&[0, 1, 3, 4, 5, 8, 508, 509, 510, 511]),
+        _ => random.between(0, RECORD_BYTES - 1),
+    };
+    bytes.truncate(length);
+    bytes
+}
+
+// Damage, one kind for each line of the table.
+
+#[derive(Clone, Copy)]
+enum Damage {
+    Degree,
+    Leading,
+    Modulus,
+    Coefficient,
+    Short,
+}
+
+/// In the order in which several are done: the coefficients that offend are
+/// set after the modulus they offend against, the leading coefficient after
+/// the degree is settled.
+const DAMAGES: [Damage; 5] = [
+    Damage::Degree,
+    Damage::Leading,
+    Damage::Modulus,
+    Damage::Coefficient,
+    Damage::Short,
+];
+
+fn one_damage(random: &mut Random) -> Vec<u8> {
+    let damage = random.pick(&DAMAGES);
+    damaged(&[damage], random)
+}
+
+/// Two or more kinds at once, so that the order of the tests matters.
+fn several_damages(random: &mut Random) -> Vec<u8> {
+    let mut chosen = Vec::new();
+    while chosen.len() < 2 {
+        let choice = random.below(1 << DAMAGES.len());
+        let taken = |&i: &usize| choice >> i & 1 == 1;
+        chosen = (0..DAMAGES.len())
+            .filter(taken)
+            .map(|i| DAMAGES[i])
+            .collect();
+    }
+    damaged(&chosen, random)
+}
+
+fn damaged(damages: &[Damage], random: &mut Random) -> Vec<u8> {
+    let mut record = good(random);
+    let mut short = false;
+    for damage in damages {
+        match damage {
+            Damage::Degree => lower_degree(&mut record, random),
+            Damage::Leading => spoil_leading(&mut record, random),
+            Damage::Modulus => spoil_modulus(&mut record, random),
+            Damage::Coefficient => spoil_coefficients(&mut record, random),
+            Damage::Short => short = true,
+        }
+    }
+    if short {
+        return shortened(record.bytes(), random);
+    }
+    record.bytes()
+}
+
+/// For No. 3: all zero, a constant, or a linear polynomial.
+fn lower_degree(record: &mut Record, random: &mut Random) {
+    let kept = random.between(0, 2);
+    record.f.0[kept..].fill(0);
+    // Often a 1 leads, so that No. 4 is not due as well.
+    if kept > 0 && random.once_in(2) {
+        record.f.0[kept - 1] = 1;
+    }
+}
+
+/// For No. 4: another leading coefficient, below m wherever m leaves room.
+fn spoil_leading(record: &mut Record, random: &mut Random) {
+    let Some(n) = record.f.degree() else { return };
+    let m = record.modulus;
+    let wanted = match random.below(4) {
+        0 => 2,
+        1 => m - 1,
+        2 => random.pick(&LOOK_SMALL),
+        _ => inputs::residue(random, m),
+    };
+    let fits = wanted > 1 && wanted < m;
+    record.f.0[n] = if fits { wanted } else { 2 };
+}
+
+/// For No. 1.
+fn spoil_modulus(record: &mut Record, random: &mut Random) {
+    let above = TOP_MODULUS + 1;
+    let any_above = above + random.below(u64::from(above)) as u32;
+    record.modulus = random.pick(&[0, 1, above, above + 1, u32::MAX, any_above]);
+}
+
+/// For No. 2: one to four coefficients, so that it matters which is lowest.
+fn spoil_coefficients(record: &mut Record, random: &mut Random) {
+    let n = record.f.degree().unwrap_or(0);
+    for _ in 0..random.between(1, 4) {
+        let power = offending_power(n, random);
+        record.f.0[power] = offending_value(record.modulus, random);
+    }
+}
+
+/// At the ends, below, at and above the degree.
+fn offending_power(n: usize, random: &mut Random) -> usize {
+    match random.below(8) {
+        0 => 0,
+        1 => 1,
+        2 => TOP_DEGREE,
+        3 => n,
+        4 => random.between(0, n),
+        5 | 6 => random.between((n + 1).min(TOP_DEGREE), TOP_DEGREE),
+        _ => random.between(0, TOP_DEGREE),
+    }
+}
+
+fn offending_value(m: u32, random: &mut Random) -> u32 {
+    let any = u64::from(m) + random.below((1 << 32) - u64::from(m));
+    random.pick(&[m, m.saturating_add(1), u32::MAX, any as u32])
+}

@@ -1,0 +1,86 @@
+//! A polynomial is 127 coefficients, constant term first.
+
+use crate::refused::Refused;
+use crate::residue::{add, multiply};
+use std::fmt;
+
+pub const PLACES: usize = 127;
+pub const TOP_DEGREE: usize = PLACES - 1;
+
+#[derive(Clone, Debug, PartialEq, Eq)]
+pub struct Polynomial(pub [u32; PLACES]);
+
+impl Polynomial {
+    pub const ZERO: Polynomial = Polynomial([0; PLACES]);
+
+    /// The polynomial written as 01 writes the worked ones: [96,3,9,1,6,0,1].
+    pub fn of(coefficients: &[u32]) -> Polynomial {
+        let mut f = Polynomial::ZERO;
+        f.0[..coefficients.len()].copy_from_slice(coefficients);
+        f
+    }
+
+    /// "The degree n is the largest i whose coefficient is not zero"; all zero
+    /// has none.
+    pub fn degree(&self) -> Option<usize> {
+        (0..PLACES).rev().find(|&i| self.0[i] != 0)
+    }
+
+    /// Every line of the refusal table among 2, 3 and 4 that is true of this
+    /// polynomial, in 01's order. The first one is the refusal given; the rest
+    /// show that an input also tests the order.
+    pub fn refusals_due(&self, m: u32, which: u32) -> Vec<Refused> {
+        let mut due = Vec::new();
+        if let Some(power) = self.0.iter().position(|&c| c >= m) {
+            due.push(Refused::coefficient(which, power as u32));
+        }
+        let degree = self.degree();
+        if degree.is_none_or(|n| n < 2) {
+            due.push(Refused::about(3, which));
+        }
+        if degree.is_some_and(|n| self.0[n] != 1) {
+            due.push(Refused::about(4, which));
+        }
+        due
+    }
+
+    /// self(inner(x)) modulo m by Horner, or nothing when the product of the
+    /// degrees is above 126. Both have a degree and are reduced modulo m.
+    pub fn compose(&self, inner: &Polynomial, m: u32) -> Option<Polynomial> {
+        let (r, s) = (self.degree()?, inner.degree()?);
+        if r * s > TOP_DEGREE {
+            return None;
+        }
+        let mut sum = Polynomial::ZERO;
+        for &coefficient in self.0[..=r].iter().rev() {
+            sum = sum.times(inner, m);
+            sum.0[0] = add(sum.0[0], coefficient, m);
+        }
+        Some(sum)
+    }
+
+    /// The product modulo m; its degree has to be 126 at most.
+    fn times(&self, other: &Polynomial, m: u32) -> Polynomial {
+        let mut product = Polynomial::ZERO;
+        let (Some(n), Some(k)) = (self.degree(), other.degree()) else {
+            return product;
+        };
+        for i in 0..=n {
+            for j in 0..=k {
+                let term = multiply(self.0[i], other.0[j], m);
+                product.0[i + j] = add(product.0[i + j], term, m);
+            }
+        }
+        product
+    }
+}
+
+impl fmt::Display for Polynomial {
+    /// Up to the highest coefficient that is not zero, so nothing is hidden.
+    fn fmt(&self, out: &mut fmt::Formatter) -> fmt::Result {
+        match self.degree() {
+            None => write!(out, "all 127 coefficients zero"),
+            Some(n) => write!(out, "{:?}", &self.0[..=n]),
+        }
+    }
+}
