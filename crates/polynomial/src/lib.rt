@@ -1,5 +1,6 @@
 // A polynomial of the desk: its limit, its degree, and the checks 1 to 4 of 01 in their order.
 ghost use mathlib.Core.Path.{_≡_};
+ghost use Prim.Native.Nat.{min};
 ghost use lib.ListN.{length};
 ghost use Rattle.algebra.specs.Polynomial.{terms, degree as degree-of};
 ghost use Rattle.polynomial.specs.Checks.{offending as offending-power, check-modulus, check-polynomial, check-one, check-two};
@@ -20,6 +21,13 @@ const LARGEST: u32 = 2147483647;
 
 // The coefficients, that of x^0 first.
 pub type Coefficients = [u32; TERMS];
+
+// The smaller of two degrees.
+pub fn smaller(a: usize, b: usize) -> usize
+    ensures { λ r. ⌜ r ≡ min a b ⌝ }
+{
+    if a < b { a } else { b }
+}
 
 // The largest power whose coefficient is not zero, and 0 if there is none.
 pub fn degree(f: &[u32]) -> usize
