@@ -1,27 +1,37 @@
 -- What the checks let pass.
 --
+--   coefficients-first          No. 2 comes before 3 and 4
 --   two-after-one               the checks of two polynomials are those of the first, then 2, 3, 4 for the second
 --   accepted-one, one-accepted  what passes the checks of one polynomial is accepted, and what is accepted passes them
 --   accepted-two, two-accepted  the same for two
+--   degrees-multiply, above-limit, within-limit     the composed degree, and No. 10
+--   accepted-pair, pair-accepted     the checks of a pair that is composed
 --   degree-fits                 an accepted polynomial is within the desk's limit
 use mathlib.Core.Path.{_≡_, refl, sym, _∙_}
 use mathlib.Core.Bool.{Bool, true, false, _||_}
 use mathlib.Core.List.{List}
-use Prim.Native.Nat.{ℕ, _≤_, _<_}
-use native.Mathlib.Nat.{mod-eq-of-lt}
+use Prim.Native.Nat.{ℕ, _*_, _≤_, _<_}
+use native.Mathlib.Nat.{mod-eq-of-lt, mul-le-mul}
 use native.Mathlib.Omega.{arith}
 use lib.Dec.{ltb}
 use lib.ListN.{length}
-use borrow.Author.Tests.{ltb-false, eqb-true, not-false, le-ltb, eq-eqb}
+use borrow.Author.Tests.{ltb-false, eqb-true, not-false, lt-ltb, le-ltb, eq-eqb}
 use Rattle.algebra.specs.Polynomial.{coef, limit, terms, degree}
-use Rattle.refusal.specs.Refusal.{_then_}
+use Rattle.refusal.specs.Refusal.{_then_, is-refused, refusal, refuse}
 use Rattle.refusal.specs.declared.Concerns.{Concerns}
-use Rattle.refusal.specs.declared.Concerns.the-variants.{First, Second}
+use Rattle.refusal.specs.declared.Concerns.the-variants.{Neither, First, Second}
+use Rattle.refusal.specs.declared.Reason.the-variants.{Limit}
+use Rattle.refusal.specs.declared.Outcome.{Outcome}
 use Rattle.refusal.specs.declared.Outcome.the-variants.{Answered}
-use Rattle.refusal.proofs.Outcomes.{then-both, then-assoc, refuse-answered}
-use Rattle.polynomial.specs.Checks.{smallest, largest, offending, check-modulus, check-coefficients, check-degree, check-leading, check-polynomial, check-one, check-two, Accepted}
+use Rattle.refusal.proofs.Outcomes.{then-refused, then-both, then-assoc, refuse-answered}
+use Rattle.polynomial.specs.Checks.{smallest, largest, offending, check-modulus, check-coefficients, check-degree, check-leading, check-polynomial, check-one, check-two, check-pair, Accepted}
 use Rattle.polynomial.proofs.Lowest.{offending-none, none-offending}
 use Rattle.algebra.proofs.Highest.{degree-below, degree-above}
+
+-- where a coefficient is m or more, that is the refusal, whatever the degree and the leading coefficient
+pub coefficients-first : (c : Concerns) (m : ℕ) (f : List ℕ) → is-refused (check-coefficients c m f) ≡ true → check-polynomial c m f ≡ check-coefficients c m f
+unfolding check-polynomial
+coefficients-first c m f h = then-refused (check-degree c f then check-leading c f) h
 
 -- the checks of two polynomials are those of the first, then 2, 3, 4 for the second
 pub two-after-one : (m : ℕ) (f h : List ℕ) → check-two m f h ≡ (check-one m f then check-polynomial Second m h)
@@ -94,3 +104,30 @@ two-accepted {m} {f} {h} a b = two-after-one m f h ∙ simp (one-accepted a, pol
 pub degree-fits : {m : ℕ} {f : List ℕ} → Accepted m f → degree f ≤ limit
 unfolding terms
 degree-fits {m} {f} a = omega (arith, degree-below f (omega arith))
+
+-- the degrees of two polynomials of the desk multiply within a word
+pub degrees-multiply : (g h : List ℕ) {r s : ℕ} → length g ≡ terms → r ≡ degree g → length h ≡ terms → s ≡ degree h → r * s ≤ limit * limit
+unfolding terms
+degrees-multiply g h {r} {s} lg er lh es = mul-le-mul (under g lg er) (under h lh es)
+  where
+    under : (f : List ℕ) {n : ℕ} → length f ≡ terms → n ≡ degree f → n ≤ limit
+    under f l e = omega (arith, degree-below f (omega arith))
+
+-- No. 10, by the test on the degrees
+pub above-limit : (g h : List ℕ) {r s : ℕ} {o : Outcome} → r ≡ degree g → s ≡ degree h → limit < r * s → o ≡ refusal Neither Limit → o ≡ refuse (ltb limit (degree g * degree h)) Neither Limit
+above-limit g h er es l e = rw (← er, ← es) (simp (lt-ltb _ _ l) e)
+
+pub within-limit : (g h : List ℕ) {r s : ℕ} → r ≡ degree g → s ≡ degree h → r * s ≤ limit → Answered ≡ refuse (ltb limit (degree g * degree h)) Neither Limit
+within-limit g h er es l = rw (← er, ← es) (simp (le-ltb _ _ l))
+
+-- what passes the checks of a pair: both are accepted, and the composed degree is within the limit
+pub accepted-pair : {m : ℕ} {g h : List ℕ} → length g ≡ terms → length h ≡ terms → check-pair m g h ≡ Answered → Accepted m g × Accepted m h × (degree g * degree h ≤ limit)
+unfolding check-pair
+accepted-pair {m} {g} {h} lg lh e =
+    let (two, ten) = then-both (check-two m g h) _ e in
+    let (a, b) = accepted-two lg lh two in
+    (a, b, ltb-false _ _ (refuse-answered _ _ _ ten))
+
+pub pair-accepted : {m : ℕ} {g h : List ℕ} → Accepted m g → Accepted m h → degree g * degree h ≤ limit → check-pair m g h ≡ Answered
+unfolding check-pair
+pair-accepted {m} {g} {h} a b l = rw (two-accepted a b) (sym (within-limit g h refl refl l))

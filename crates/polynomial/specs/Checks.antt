@@ -9,17 +9,18 @@
 --   check-polynomial c m f       Nos. 2, 3, 4
 --   check-one m f                1, then 2, 3, 4 for f
 --   check-two m f h              1, then 2, 3, 4 for f, the first, then for h, the second
+--   check-pair m g h             the same for g and h, then 10
 --   Accepted m f                 what passes them: a modulus of the desk, and f reduced and monic, of degree 2 or more
 use mathlib.Core.Bool.{true, false, not, _||_}
 use mathlib.Core.List.{List, [], _∷_}
-use Prim.Native.Nat.{ℕ, suc, _≤_}
+use Prim.Native.Nat.{ℕ, suc, _*_, _≤_}
 use lib.Dec.{ltb, leb, eqb}
 use lib.ListN.{length}
-use Rattle.algebra.specs.Polynomial.{coef, degree, Monic, Reduced}
+use Rattle.algebra.specs.Polynomial.{coef, degree, limit, Monic, Reduced}
 use Rattle.refusal.specs.Refusal.{refuse, _then_}
 use Rattle.refusal.specs.declared.Concerns.{Concerns}
 use Rattle.refusal.specs.declared.Concerns.the-variants.{Neither, First, Second}
-use Rattle.refusal.specs.declared.Reason.the-variants.{Modulus, Coefficient, Degree, Leading}
+use Rattle.refusal.specs.declared.Reason.the-variants.{Modulus, Coefficient, Degree, Leading, Limit}
 use Rattle.refusal.specs.declared.Outcome.{Outcome}
 
 -- the smallest modulus
@@ -62,6 +63,10 @@ check-one m f = check-modulus m then check-polynomial First m f
 -- two polynomials
 unfoldable pub check-two : ℕ → List ℕ → List ℕ → Outcome
 check-two m f h = check-modulus m then check-polynomial First m f then check-polynomial Second m h
+
+-- two polynomials that are composed: No. 10 if the composed degree is above the limit
+unfoldable pub check-pair : ℕ → List ℕ → List ℕ → Outcome
+check-pair m g h = check-two m g h then refuse (ltb limit (degree g * degree h)) Neither Limit
 
 -- what the checks let pass
 pub record Accepted (m : ℕ) (f : List ℕ) : Type 0 where

@@ -3,7 +3,8 @@ ghost use mathlib.Core.Path.{_≡_};
 ghost use Prim.Native.Nat.{min};
 ghost use lib.ListN.{length};
 ghost use Rattle.algebra.specs.Polynomial.{terms, degree as degree-of};
-ghost use Rattle.polynomial.specs.Checks.{offending as offending-power, check-modulus, check-polynomial, check-one, check-two};
+ghost use Rattle.polynomial.specs.Checks.{offending as offending-power, check-modulus, check-polynomial, check-one, check-two, check-pair};
+ghost use Rattle.polynomial.specs.Answers.{nothing as nothing-of, no-parts as no-parts-of};
 use refusal::Concerns;
 use refusal::Outcome;
 use refusal::Reason;
@@ -21,6 +22,40 @@ const LARGEST: u32 = 2147483647;
 
 // The coefficients, that of x^0 first.
 pub type Coefficients = [u32; TERMS];
+
+// What an operation on polynomials answers: all zero after a refusal.
+pub struct Answer {
+    pub outcome: Outcome,
+    pub polynomial: Coefficients,
+}
+
+// What an operation on pairs answers: both all zero after a refusal.
+pub struct Parts {
+    pub outcome: Outcome,
+    pub left: Coefficients,
+    pub right: Coefficients,
+}
+
+// Zeros beside an outcome.
+pub fn nothing(outcome: Outcome) -> Answer
+    ensures { λ r. ⌜ r ≡ nothing-of outcome ⌝ }
+{
+    Answer {
+        outcome,
+        polynomial: [0; TERMS],
+    }
+}
+
+// Two parts of zeros beside an outcome.
+pub fn no_parts(outcome: Outcome) -> Parts
+    ensures { λ r. ⌜ r ≡ no-parts-of outcome ⌝ }
+{
+    Parts {
+        outcome,
+        left: [0; TERMS],
+        right: [0; TERMS],
+    }
+}
 
 // The smaller of two degrees.
 pub fn smaller(a: usize, b: usize) -> usize
@@ -111,4 +146,20 @@ pub fn check_two(m: u32, f: &[u32], n: usize, h: &[u32], s: usize) -> Outcome
         return o;
     }
     check_polynomial(Concerns::Second, m, h, s)
+}
+
+// The checks of an operation that composes g, the first, and h, the second.
+pub fn check_pair(m: u32, g: &[u32], r: usize, h: &[u32], s: usize) -> Outcome
+    requires { ⌜ (length (now g) ≡ terms) × (r ≡ degree-of (now g)) ⌝ }
+    requires { ⌜ (length (now h) ≡ terms) × (s ≡ degree-of (now h)) ⌝ }
+    ensures { λ o. ⌜ o ≡ check-pair m (now (g .entry)) (now (h .entry)) ⌝ }
+{
+    let o = check_two(m, g, r, h, s);
+    if refusal::refuses(o) {
+        return o;
+    }
+    if LIMIT < r * s {
+        return refusal::refused(Concerns::Neither, Reason::Limit);
+    }
+    Outcome::Answered
 }

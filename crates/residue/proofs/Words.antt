@@ -1,7 +1,7 @@
 -- A sum kept in two words, high·2^64 + low.
 --
 --   Widened n high low s         the words hold s, a sum of n products
---   widened-none, widened-more   no product, and one more
+--   widened-none, widened-one, widened-more     no product, one in the low word, and one more
 --   widened-room                 few products leave room in the high word
 --   widened-mod                  the words modulo m are s modulo m
 --   one-word, two-words          the words modulo m: with high 0, and 32 bits at a time
@@ -17,6 +17,9 @@ pub data Widened (n high low s : ℕ) : Type 0 where
 
 pub widened-none : {n s : ℕ} → s ≡ 0 → Widened n 0 0 s
 widened-none e = widened (omega arith) (omega arith)
+
+pub widened-one : {n l s : ℕ} → l ≡ s → Widened n 0 l s
+widened-one e = widened (omega arith) (omega arith)
 
 pub widened-more : (p : ℕ) {n n′ h h′ l l′ s s′ : ℕ} → n′ ≡ n + 1 → s′ ≡ s + p →
     (h′ * 2 ^ 64 + l′ ≡ h * 2 ^ 64 + l + p) × (h′ ≤ h + 1) → Widened n h l s → Widened n′ h′ l′ s′

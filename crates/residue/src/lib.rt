@@ -1,6 +1,6 @@
 // Numbers modulo m in code, for any modulus up to 2^32, prime or not.
 //
-//   add, subtract, multiply, power   one result below m
+//   add, subtract, multiply, two_products, power     one result below m
 //   invert                           the inverse, or the greatest common factor that is in the way
 //   inner_product                    a[lo]*b[k-lo] + .. + a[hi-1]*b[k-hi+1]: exact, and reduced once at the end
 //   strided_product                  a[lo]*b[at] + a[lo+1]*b[at+step] + ..: the same of numbers that lie apart
@@ -36,6 +36,18 @@ pub fn multiply(a: u32, b: u32, m: u64) -> u32
     ensures { λ r. ⌜ r ≡ a * b % m ⌝ }
 {
     (a as u64 * b as u64 % m) as u32
+}
+
+// a * x + b * y modulo m, exact and reduced once.
+pub fn two_products(a: u32, x: u32, b: u32, y: u32, m: u64) -> u32
+    requires { ⌜ (0 < m) × (m ≤ 2 ^ 32) ⌝ }
+    ensures { λ r. ⌜ r ≡ (a * x + b * y) % m ⌝ }
+{
+    let w = Wide {
+        high: 0,
+        low: whole(a, x),
+    };
+    reduced(added(w, whole(b, y)), m)
 }
 
 // a^n modulo m, by squaring.

@@ -1,0 +1,24 @@
+use mathlib.Core.Path.{refl, sym, ap}
+use Prim.Native.Nat.{ℕ, _+_, _*_}
+use native.Mathlib.Omega.{arith}
+use lib.Dec.{lit<}
+use borrow.Author.Needs.{needs}
+use Rattle.residue.proofs.Words.{widened-one, widened-more, widened-room, widened-mod}
+use Rattle.residue.proofs.two_products.Statement.{statement}
+use Rattle.residue.proofs.two_products.Tie as tie
+
+reduced-requires : tie.Need-reduced-requires
+reduced-requires c κs = (
+  omega arith,
+  omega arith,
+  widened-room (lit< tt) (widened-more _ {n = 0} refl refl (c .added .ensures) (widened-one (c .before .before .whole .ensures))),
+)
+
+returns : tie.Need-returns
+returns c =
+    widened-mod _ (c .reduced .ensures)
+    (widened-more _ {n = 0} refl (ap (λ (p : ℕ). c .before .before .before .before .args .a * c .before .before .before .before .args .x + p) (sym (c .before .before .whole2 .ensures))) (c .before .added .ensures) (widened-one (c .before .before .before .whole .ensures)))
+
+pub two-products-spec : {M : Type 1} → statement M
+two-products-spec =
+    tie.close (tie.spec (λ c κs. search needs) (λ c κs. search needs) (λ c κs. search needs) reduced-requires returns)
