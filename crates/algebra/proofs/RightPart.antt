@@ -1,5 +1,6 @@
 -- 01's Right part rule.
 --
+--   power-at                              how the place j + (r-1)s of h^r knows the coefficient of x^j
 --   right-term                            the two sides of 01's equation, for any monic g and h
 --   pair-forced                           every normal pair obeys the rule
 --   forced-leading                        what obeys it agrees with f at the leading terms, whatever the monic g
@@ -69,7 +70,7 @@ module _ (m : ℕ) (pos : 0 < m) where
   cleared-monic {s} j {h} l mon = record { top = ap (λ (x : ℕ). x % m) (cleared-above j h s l) ∙ mon .top; above = λ i b. ap (λ (x : ℕ). x % m) (cleared-above j h i (omega arith)) ∙ mon .above i b }
 
   -- the place j + r s of h^(r+1) knows h's coefficient of x^j only by (r + 1) c_j
-  power-at : {s : ℕ} (r j : ℕ) {h : List ℕ} → j < s → Monic m s h
+  pub power-at : {s : ℕ} (r j : ℕ) {h : List ℕ} → j < s → Monic m s h
       → coef (power h (suc r)) (j + r * s) % m ≡ (coef (power (cleared (suc j) h) (suc r)) (j + r * s) + suc r * coef h j) % m
   unfolding red S._⊞_ S.sneg
   power-at {s} r j {h} l mon = at-residue m pos (power h (suc r)) i _ (at h ∙ pow-top Z (monic-series m pos mon) (monic-series m pos (cleared-monic (suc j) l mon)) r split low

@@ -1,0 +1,79 @@
+// The chain area: places for the parts of a chain in the caller's memory.
+ghost use mathlib.Core.Path.{_≡_};
+ghost use Prim.Native.Nat.{_+_, _*_, _<_, _≤_};
+ghost use lib.ListN.{length};
+ghost use Rattle.algebra.specs.Polynomial.{terms};
+ghost use Rattle.area.specs.Area.{most-parts, area-words, put-at, cleared, all-zero, part-of};
+use polynomial::TERMS;
+
+// How many parts a chain has at the most.
+pub const PARTS: usize = 6;
+
+// How many words of an area are used.
+pub const WORDS: usize = PARTS * TERMS;
+
+// Copies the words of p over a place that is lent.
+fn copy(place: &mut [u32], p: &[u32])
+    requires { ⌜ length (now place) ≡ length (now p) ⌝ }
+    ensures { λ _. ⌜ now (place .exit) ≡ now (p .entry) ⌝ }
+{
+    let mut k = 0;
+    while k < p.len() {
+        place[k] = p[k];
+        k += 1;
+    }
+}
+
+// Writes place i, lending its words in the middle of the area, and no other word.
+pub fn put(area: &mut [u32], i: usize, p: &[u32])
+    requires { ⌜ (i < most-parts) × (area-words ≤ length (now area)) × (length (now p) ≡ terms) ⌝ }
+    ensures { λ _. ⌜ now (area .exit) ≡ put-at (now (area .entry)) i (now (p .entry)) ⌝ }
+{
+    let start = i * TERMS;
+    let end = start + TERMS;
+    copy(&mut area[start..end], p);
+}
+
+// Zeroes every place.
+pub fn clear(area: &mut [u32])
+    requires { ⌜ area-words ≤ length (now area) ⌝ }
+    ensures { λ _. ⌜ now (area .exit) ≡ cleared (now (area .entry)) ⌝ }
+{
+    let mut k = 0;
+    while k < WORDS {
+        area[k] = 0;
+        k += 1;
+    }
+}
+
+fn is_zero(p: &[u32]) -> bool
+    ensures { λ b. ⌜ b ≡ all-zero (now (p .entry)) ⌝ }
+{
+    let mut k = 0;
+    while k < p.len() {
+        if p[k] != 0 {
+            return false;
+        }
+        k += 1;
+    }
+    true
+}
+
+// The operation: part i of the caller's own area, or an empty part.
+pub fn part(area: &[u32], i: usize) -> &[u32]
+    ensures { λ r. ⌜ now r ≡ part-of (now (area .entry)) i ⌝ }
+{
+    if PARTS <= i {
+        return &area[0..0];
+    }
+    if area.len() < WORDS {
+        return &area[0..0];
+    }
+    let start = i * TERMS;
+    let end = start + TERMS;
+    let p = &area[start..end];
+    if is_zero(p) {
+        return &area[0..0];
+    }
+    p
+}
