@@ -20,7 +20,7 @@ use Rattle.algebra.proofs.Numbers.{table-length, table-below, table-abo
 
 -- every polynomial of a low degree has its reduced list
 module _ (m : ℕ) (pos : 0 < m) where
-  pub reduced : List ℕ → List ℕ
+  unfoldable pub reduced : List ℕ → List ℕ
   reduced p = table terms (λ i. coef p i % m)
 
   pub reduced-reduced : (p : List ℕ) → Reduced m (reduced p)

@@ -6,17 +6,18 @@
 --   accepted-two, two-accepted  the same for two
 --   degrees-multiply, above-limit, within-limit     the composed degree, and No. 10
 --   accepted-pair, pair-accepted     the checks of a pair that is composed
+--   accepted-as                 what a leaf asks of an accepted polynomial
 --   degree-fits                 an accepted polynomial is within the desk's limit
 use mathlib.Core.Path.{_≡_, refl, sym, _∙_}
 use mathlib.Core.Bool.{Bool, true, false, _||_}
 use mathlib.Core.List.{List}
-use Prim.Native.Nat.{ℕ, _*_, _≤_, _<_}
+use Prim.Native.Nat.{ℕ, _*_, _^_, _≤_, _<_}
 use native.Mathlib.Nat.{mod-eq-of-lt, mul-le-mul}
 use native.Mathlib.Omega.{arith}
 use lib.Dec.{ltb}
 use lib.ListN.{length}
 use borrow.Author.Tests.{ltb-false, eqb-true, not-false, lt-ltb, le-ltb, eq-eqb}
-use Rattle.algebra.specs.Polynomial.{coef, limit, terms, degree}
+use Rattle.algebra.specs.Polynomial.{coef, limit, terms, degree, Monic, Reduced}
 use Rattle.refusal.specs.Refusal.{_then_, is-refused, refusal, refuse}
 use Rattle.refusal.specs.declared.Concerns.{Concerns}
 use Rattle.refusal.specs.declared.Concerns.the-variants.{Neither, First, Second}
@@ -131,3 +132,8 @@ accepted-pair {m} {g} {h} lg lh e =
 pub pair-accepted : {m : ℕ} {g h : List ℕ} → Accepted m g → Accepted m h → degree g * degree h ≤ limit → check-pair m g h ≡ Answered
 unfolding check-pair
 pair-accepted {m} {g} {h} a b l = rw (two-accepted a b) (sym (within-limit g h refl refl l))
+
+-- an accepted polynomial, by its degree as the code has it, and its modulus within a word
+pub accepted-as : {m n : ℕ} {f : List ℕ} → n ≡ degree f → Accepted m f → Reduced m f × Monic m n f × (2 ≤ n) × (n ≤ limit) × (1 < m) × (m ≤ 2 ^ 32)
+unfolding smallest largest
+accepted-as {m} {n} {f} e a = (a .reduced, rw e (a .monic), rw e (a .two), rw e (degree-fits a), omega (arith, a .low), omega (arith, a .high))

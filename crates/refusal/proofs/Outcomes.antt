@@ -5,12 +5,14 @@
 --   then-both                       a and then b pass: both pass
 --   then-assoc                      three checks, in either grouping
 --   stopped, went-on                code that asks `refuses` and returns early does a and then b
+--   a-refusal                       what refuses is some refusal
 --   refuse-answered                 a check that passes: its test does not hold
 use mathlib.Core.Path.{_≡_, refl, sym, _∙_}
-use mathlib.Core.Bool.{Bool, true, false}
+use mathlib.Core.Bool.{Bool, true, false, false≢true}
 use Rattle.refusal.specs.Refusal.{refuse, _then_, is-refused}
 use Rattle.refusal.specs.declared.Concerns.{Concerns}
 use Rattle.refusal.specs.declared.Reason.{Reason}
+use Rattle.refusal.specs.declared.Refusal.{Refusal}
 use Rattle.refusal.specs.declared.Outcome.{Outcome}
 use Rattle.refusal.specs.declared.Outcome.the-variants.{Answered, Refused}
 
@@ -52,3 +54,8 @@ module _ {a o : Outcome} {t : Bool} (is : o ≡ a) (tells : t ≡ is-refused o) 
 pub refuse-answered : (t : Bool) (c : Concerns) (r : Reason) → refuse t c r ≡ Answered → t ≡ false
 refuse-answered true c r h = cc
 refuse-answered false c r h = refl
+
+-- what refuses is some refusal
+pub a-refusal : (a : Outcome) → is-refused a ≡ true → (r : Refusal) × (a ≡ Refused r)
+a-refusal Answered h = absurd (false≢true h)
+a-refusal (Refused r) h = (r, refl)

@@ -1,0 +1,5 @@
+pub mod Summing
+pub mod Rowing
+pub mod Solving
+pub mod Composing
+pub mod Comparing

@@ -1,0 +1,93 @@
+-- What the code has found after each test, as the contracts say it.
+--
+--   fit-stopped, fit-refused, fit-passed     the checks before No. 6, and No. 6 itself
+--   composed-refused, composed-told          the answer to: compose
+--   left-refused, left-misfit, left-none, left-found     the answer to: the left part
+--   split-refused, split-misfit, split-told  the answer to: a split
+use mathlib.Core.Path.{_≡_, sym, ap, _∙_}
+use mathlib.Core.Bool.{Bool, true, false, not}
+use mathlib.Core.List.{List}
+use Prim.Native.Nat.{ℕ, _/_}
+use Rattle.algebra.specs.Polynomial.{degree}
+use Rattle.refusal.specs.Refusal.{refusal, refuse, _then_, is-refused}
+use Rattle.refusal.specs.declared.Concerns.the-variants.{Neither}
+use Rattle.refusal.specs.declared.Reason.the-variants.{Fit, NoPair}
+use Rattle.refusal.specs.declared.Outcome.{Outcome}
+use Rattle.refusal.specs.declared.Outcome.the-variants.{Answered}
+use Rattle.refusal.proofs.Outcomes.{then-refused, then-answered, a-refusal, answered}
+use Rattle.polynomial.specs.Checks.{check-one, check-two, check-pair}
+use Rattle.polynomial.specs.Answers.{nothing, no-parts}
+use Rattle.polynomial.specs.declared.Answer.{Answer}
+use Rattle.polynomial.specs.declared.Parts.{Parts}
+use Rattle.left.specs.Left.{Answers}
+use Rattle.left.specs.Powers.{composition}
+use Rattle.pair.specs.Pairing.{fits, compose, check-left, LeftPartOf, check-split, Splits, Halved, told}
+use Rattle.pair.specs.Pairing as of
+use Rattle.pair.specs.declared.Verdict.{Verdict}
+use Rattle.pair.specs.declared.Verdict.the-variants as verdict
+
+module _ {checks o : Outcome} (e : o ≡ checks) where
+  fit-stopped : (b : Bool) → is-refused o ≡ true → (checks then refuse (not b) Neither Fit) ≡ o
+  fit-stopped b h = then-refused (refuse (not b) Neither Fit) (rw (← e) h) ∙ sym e
+
+  fit-refused : {b : Bool} → is-refused o ≡ false → b ≡ false → (checks then refuse (not b) Neither Fit) ≡ refusal Neither Fit
+  fit-refused h z = rw z (then-answered checks (rw (← e) h))
+
+  fit-passed : {b : Bool} → is-refused o ≡ false → b ≡ true → (checks then refuse (not b) Neither Fit) ≡ Answered
+  fit-passed h z = rw z (then-answered checks (rw (← e) h))
+
+module _ (m : ℕ) (g h : List ℕ) {o : Outcome} (o-is : o ≡ check-pair m g h) where
+  pub composed-refused : {x : Answer} → is-refused o ≡ true → x ≡ nothing o → x ≡ compose m g h
+  unfolding compose
+  composed-refused t e = let (r, q) = a-refusal o t in rw (← o-is) (e ∙ rw q)
+
+  pub composed-told : {f : List ℕ} → is-refused o ≡ false → f ≡ composition m g h → record { outcome = Answered; polynomial = f } ≡ compose m g h
+  unfolding compose
+  composed-told t e = rw (← o-is, answered {a = o} t, e)
+
+module _ (m : ℕ) (f h : List ℕ) {n s : ℕ} {o : Outcome} (o-is : o ≡ check-two m f h) (n-is : n ≡ degree f) (s-is : s ≡ degree h) where
+  pub left-refused : {x : Answer} → is-refused o ≡ true → x ≡ nothing o → LeftPartOf m f h x
+  unfolding check-left
+  left-refused t e = let (r, q) = a-refusal o t in of.refused (fit-stopped o-is (fits (degree f) (degree h)) t ∙ q) (e ∙ ap nothing q)
+
+  module _ {b : Bool} (b-is : b ≡ fits n s) (fine : is-refused o ≡ false) where
+    same : fits (degree f) (degree h) ≡ b
+    same = rw (← n-is, ← s-is) (sym b-is)
+
+    pub left-misfit : {p : Outcome} {x : Answer} → b ≡ false → p ≡ refusal Neither Fit → x ≡ nothing p → LeftPartOf m f h x
+    unfolding check-left
+    left-misfit t q e = of.refused (fit-refused o-is fine (same ∙ t)) (e ∙ ap nothing q)
+
+    pub left-passed : b ≡ true → check-left m f h ≡ Answered
+    unfolding check-left
+    left-passed t = fit-passed o-is fine (same ∙ t)
+
+    pub left-none : {g : List ℕ} {found : Bool} {p : Outcome} {x : Answer} → b ≡ true → Answers m f (n / s) h found g → found ≡ false
+        → p ≡ refusal Neither NoPair → x ≡ nothing p → LeftPartOf m f h x
+    left-none t a z q e = of.none (left-passed t) (rw (← n-is, ← s-is) (a .no z)) (e ∙ ap nothing q)
+
+    pub left-found : {g : List ℕ} {found : Bool} {x : Answer} → b ≡ true → Answers m f (n / s) h found g → found ≡ true
+        → x ≡ record { outcome = Answered; polynomial = g } → LeftPartOf m f h x
+    left-found {g} t a z e = of.found {g = g} (left-passed t) (rw (← n-is, ← s-is) (a .yes z)) e
+
+module _ (m : ℕ) (f : List ℕ) (r : ℕ) {n : ℕ} {o : Outcome} (o-is : o ≡ check-one m f) (n-is : n ≡ degree f) where
+  pub split-refused : {x : Parts} → is-refused o ≡ true → x ≡ no-parts o → Splits m f r x
+  unfolding check-split
+  split-refused t e = let (q, w) = a-refusal o t in of.refused (fit-stopped o-is (fits (degree f) r) t ∙ w) (e ∙ ap no-parts w)
+
+  module _ {b : Bool} (b-is : b ≡ fits n r) (fine : is-refused o ≡ false) where
+    alike : fits (degree f) r ≡ b
+    alike = rw (← n-is) (sym b-is)
+
+    pub split-misfit : {p : Outcome} {x : Parts} → b ≡ false → p ≡ refusal Neither Fit → x ≡ no-parts p → Splits m f r x
+    unfolding check-split
+    split-misfit t q e = of.refused (fit-refused o-is fine (alike ∙ t)) (e ∙ ap no-parts q)
+
+    pub split-passed : b ≡ true → check-split m f r ≡ Answered
+    unfolding check-split
+    split-passed t = fit-passed o-is fine (alike ∙ t)
+
+    pub split-told : (v : Verdict) (g h : List ℕ) {x : Parts} → b ≡ true → Halved m f r (n / r) v g h → x ≡ told v g h → Splits m f r x
+    split-told verdict.Pair g h t a e = of.found {g = g} {h = h} (split-passed t) (a .0) (rw (← n-is) (a .1)) e
+    split-told verdict.NoPair g h t a e = of.none (split-passed t) (a .0) (rw (← n-is) (a .1)) e
+    split-told verdict.Shared g h t a e = of.shared (split-passed t) a e

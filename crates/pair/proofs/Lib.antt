@@ -1,0 +1,4 @@
+pub mod Fitting
+pub mod Forcing
+pub mod Answering
+pub mod Determined

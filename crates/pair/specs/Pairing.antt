@@ -1,0 +1,82 @@
+-- The operations on pairs, as 01 has them.
+--
+--   fits n d                 d divides n, and d and n/d are both at least 2
+--   compose m g h            the answer to: compose g and h
+--   check-left m f h         1; 2, 3, 4 for f and h; 6
+--   LeftPartOf m f h x       x answers: the left part of f for the given h
+--   check-split m f r        1, 2, 3, 4; 6
+--   Splits m f r x           x answers: f split at the left degree r
+--   told v g h               the answer to a split, from what the search found
+--   Halved m f r s v g h     what the search at r and s finds: the pair, that there is none, or that r and m share a factor
+use mathlib.Core.Path.{_≡_}
+use mathlib.Core.Bool.{Bool, not, _&&_}
+use mathlib.Core.List.{List}
+use Prim.Native.Nat.{ℕ, _/_, _%_}
+use lib.Dec.{leb, eqb}
+use Rattle.algebra.specs.Number.{Coprime}
+use Rattle.algebra.specs.Polynomial.{after, degree, Same, Monic, Reduced}
+use Rattle.algebra.specs.Pair.{NormalPair}
+use Rattle.algebra.specs.Pair as pair
+use Rattle.refusal.specs.Refusal.{refusal, refuse, _then_}
+use Rattle.refusal.specs.declared.Refusal.{Refusal}
+use Rattle.refusal.specs.declared.Concerns.the-variants.{Neither}
+use Rattle.refusal.specs.declared.Reason.the-variants.{Factor, Fit, NoPair}
+use Rattle.refusal.specs.declared.Outcome.{Outcome}
+use Rattle.refusal.specs.declared.Outcome.the-variants.{Answered, Refused}
+use Rattle.polynomial.specs.Checks.{check-one, check-two, check-pair}
+use Rattle.polynomial.specs.Answers.{nothing, no-parts}
+use Rattle.polynomial.specs.declared.Answer.{Answer}
+use Rattle.polynomial.specs.declared.Parts.{Parts}
+use Rattle.left.specs.Powers.{composition}
+use Rattle.left.specs.Left.{LeftPart, NoLeft}
+use Rattle.pair.specs.declared.Verdict.{Verdict}
+use Rattle.pair.specs.declared.Verdict.the-variants as verdict
+
+-- a degree that a part of a polynomial of degree n can have
+unfoldable pub fits : ℕ → ℕ → Bool
+fits n d = leb 2 d && eqb (n % d) 0 && leb 2 (n / d)
+
+-- 1; 2, 3, 4 for g and h; 10; else g(h) modulo m
+abbrev pub composed : Outcome → ℕ → List ℕ → List ℕ → Answer
+composed Answered m g h = record { outcome = Answered; polynomial = composition m g h }
+composed (Refused r) m g h = nothing (Refused r)
+
+-- the answer to: compose g and h
+unfoldable pub compose : ℕ → List ℕ → List ℕ → Answer
+compose m g h = composed (check-pair m g h) m g h
+
+-- No. 6 of a given h
+unfoldable pub check-left : ℕ → List ℕ → List ℕ → Outcome
+check-left m f h = check-two m f h then refuse (not (fits (degree f) (degree h))) Neither Fit
+
+-- the refusals; else No. 7 exactly if no monic g composes with h to f; else that g
+pub data LeftPartOf (m : ℕ) (f h : List ℕ) (x : Answer) : Type 0 where
+  refused : {r : Refusal} → check-left m f h ≡ Refused r → x ≡ nothing (Refused r) → LeftPartOf m f h x
+  none : check-left m f h ≡ Answered → NoLeft m f (degree f / degree h) h → x ≡ nothing (refusal Neither NoPair) → LeftPartOf m f h x
+  found : {g : List ℕ} → check-left m f h ≡ Answered → LeftPart m f (degree f / degree h) h g
+      → x ≡ record { outcome = Answered; polynomial = g } → LeftPartOf m f h x
+
+-- No. 6 of a left degree
+unfoldable pub check-split : ℕ → List ℕ → ℕ → Outcome
+check-split m f r = check-one m f then refuse (not (fits (degree f) r)) Neither Fit
+
+-- the refusals; No. 5 if r and m share a factor above 1; No. 7 exactly if no monic g and h of degrees r and n/r compose to f;
+-- else the pair with h(0) = 0
+pub data Splits (m : ℕ) (f : List ℕ) (r : ℕ) (x : Parts) : Type 0 where
+  refused : {e : Refusal} → check-split m f r ≡ Refused e → x ≡ no-parts (Refused e) → Splits m f r x
+  shared : check-split m f r ≡ Answered → (Coprime r m → ⊥) → x ≡ no-parts (refusal Neither Factor) → Splits m f r x
+  none : check-split m f r ≡ Answered → Coprime r m → pair.NoPair m f r (degree f / r) → x ≡ no-parts (refusal Neither NoPair) → Splits m f r x
+  found : {g h : List ℕ} → check-split m f r ≡ Answered → Coprime r m → NormalPair m f r (degree f / r) g h
+      → x ≡ record { outcome = Answered; left = g; right = h } → Splits m f r x
+
+-- what the search at a left degree r and a right degree s finds
+abbrev pub Halved : ℕ → List ℕ → ℕ → ℕ → Verdict → List ℕ → List ℕ → Type 0
+Halved m f r s verdict.Pair g h = Coprime r m × NormalPair m f r s g h
+Halved m f r s verdict.NoPair g h = Coprime r m × pair.NoPair m f r s
+Halved m f r s verdict.Shared g h = Coprime r m → ⊥
+
+-- the answer to a split, from what the search found
+abbrev pub told : Verdict → List ℕ → List ℕ → Parts
+told verdict.Pair g h = record { outcome = Answered; left = g; right = h }
+told verdict.NoPair g h = no-parts (refusal Neither NoPair)
+told verdict.Shared g h = no-parts (refusal Neither Factor)
