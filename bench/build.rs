@@ -6,7 +6,7 @@ fn main() {
     let here = PathBuf::from(env::var("CARGO_MANIFEST_DIR").unwrap());
     let lib = here.join("../target/staticlib");
     println!("cargo:rustc-link-search=native={}", lib.display());
-    for name in ["measure"] {
+    for name in ["measure", "desk"] {
         println!("cargo:rustc-link-lib=static={name}");
         println!(
             "cargo:rerun-if-changed={}",

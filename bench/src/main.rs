@@ -1,7 +1,9 @@
 //! Times the desk's code beside the same method in plain Rust, in one run, on the same inputs.
 //! Every answer is compared first: a faster wrong answer does not count.
 
+mod plain;
 mod residue;
+mod split;
 mod timing;
 
 fn main() {
@@ -10,4 +12,5 @@ fn main() {
         "ns a call, the least of many short runs", "desk", "plain Rust", "ratio"
     );
     residue::run();
+    split::run();
 }

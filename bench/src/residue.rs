@@ -1,3 +1,4 @@
+use crate::plain::{inner_product, invert as plain_invert};
 use crate::timing::{beside, Random};
 
 const MOST: u64 = 1 << 32;
@@ -9,23 +10,6 @@ extern "C" {
 }
 
 // The plain functions test their arguments as the exported ones do and are not inlined: a call costs the same on both sides.
-
-fn reduced(w: u128, m: u64) -> u32 {
-    let (high, low) = ((w >> 64) as u64, w as u64);
-    if high == 0 {
-        return (low % m) as u32;
-    }
-    let x = ((high << 32) | (low >> 32)) % m;
-    (((x << 32) | (low & 0xffff_ffff)) % m) as u32
-}
-
-fn inner_product(a: &[u32], b: &[u32], k: usize, lo: usize, hi: usize, m: u64) -> u32 {
-    let mut w = 0u128;
-    for i in lo..hi {
-        w += (a[i] as u64 * b[k - i] as u64) as u128;
-    }
-    reduced(w, m)
-}
 
 #[inline(never)]
 fn product(a: &[u32], b: &[u32], m: u64, out: &mut [u32]) {
@@ -58,17 +42,7 @@ fn invert(a: u64, m: u64) -> u64 {
     if m < 2 || MOST < m {
         return 0;
     }
-    let (mut x, mut y, mut s, mut t) = (m, a % m, 0u64, 1u64);
-    while y != 0 {
-        let p = t * (x / y) % m;
-        let u = if p <= s { s - p } else { m - p + s };
-        (x, y, s, t) = (y, x % y, t, u);
-    }
-    if x == 1 {
-        s
-    } else {
-        0
-    }
+    plain_invert(a, m).unwrap_or(0) as u64
 }
 
 pub fn run() {

@@ -7,6 +7,7 @@
 --   undo, undoes-sym, undoes-invertible, undoes-unique, changed-undone      undoing
 --   changed-right-exists, -reduced, -unique, -monic                         the same of a right part
 --   changed-pair, changed-pair-equal      the changed pair composes to the changed polynomial, and is one
+--   changed-numbers, changed-pair-numbers     changes depend on a and b modulo m only
 --   changed-pair-by-nothing, changed-pair-combined                          (1, 0) and combining, of pairs
 --   splits-changed, splits-unchanged      a change keeps whether f splits
 use mathlib.Core.Path.{_≡_, refl, sym, ap, _∙_}
@@ -200,6 +201,26 @@ module _ {m : ℕ} (pos : 0 < m) where
     left = changed-numbers (a ^ s * c ^ s) (a ^ s * value h′ d + value h b) ((a * c) ^ s) (value h (a * d + b)) (ap (λ (x : ℕ). x % m) (sym (mul-pow a c s))) (handed-on d (k .right)) (changed-combined (k .left) (l .left));
     right = changed-right-combined (k .right) (l .right);
   }
+
+  -- a value depends on the number modulo m only
+  value-number : (h : List ℕ) (b d : ℕ) → b % m ≡ d % m → value h b % m ≡ value h d % m
+  unfolding value
+  value-number h b d e = sym (at b) ∙ value-same 0 (after-same m pos (same-refl h) (constant-same m pos b d e)) ∙ at d
+    where
+      at : (b : ℕ) → value (after h (b ∷ [])) 0 % m ≡ value h b % m
+      at b = ap (λ (x : ℕ). x % m) (value-after h (b ∷ []) 0 ∙ ap (value h) (N.add-zero b))
+
+  -- and so does the change of a pair
+  pub changed-pair-numbers : {r s : ℕ} (a b c d : ℕ) {g h g′ h′ : List ℕ} → a % m ≡ c % m → b % m ≡ d % m → ChangedPair m r s a b g h g′ h′ → ChangedPair m r s c d g h g′ h′
+  changed-pair-numbers {s = s} a b c d {h = h} {h′ = h′} e o k =
+      let constant = value-number h b d o in
+      record {
+        left = changed-numbers (a ^ s) (value h b) (c ^ s) (value h d) (pow-same m a c e s) constant (k .left);
+        right = record {
+          same = plus-same m pos (constant-same m pos _ _ (sym constant)) (scaled-number m pos _ _ h′ (sym (pow-same m a c e s)))
+              ⨾ k .right .same ⨾ after-same m pos (same-refl h) (line-same m pos e o);
+        };
+      }
 
   -- (1, 0) changes no normal pair
   pub changed-pair-by-nothing : {r s : ℕ} (g : List ℕ) {h : List ℕ} → Normal m h → ChangedPair m r s 1 0 g h g h

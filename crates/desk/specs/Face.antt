@@ -2,12 +2,16 @@
 --
 --   told outcome        number, polynomial and power of the refusal; all 0 if it is answered
 --   CheckedAs b r ..    what desk_check returns and writes for the bytes b
+--   AnswersAs Of r f    what a function for an operation that answers one polynomial returns and writes
+--   PartsAs Of r g h    the same for an operation that answers two parts
 use mathlib.Core.Path.{_≡_}
 use mathlib.Core.List.{List}
 use Prim.Native.Nat.{ℕ}
 use Rattle.refusal.specs.Refusal.{number, polynomial, power}
 use Rattle.refusal.specs.declared.Outcome.{Outcome}
 use Rattle.refusal.specs.declared.Outcome.the-variants.{Answered, Refused}
+use Rattle.polynomial.specs.declared.Answer.{Answer}
+use Rattle.polynomial.specs.declared.Parts.{Parts}
 use Rattle.record.specs.Record.{checked}
 use Rattle.desk.specs.declared.Refused as face
 
@@ -22,3 +26,18 @@ pub record CheckedAs (b : List ℕ) (r : face.Refused) (modulus : ℕ) (f : List
   pub modulus-is : modulus ≡ checked b .modulus
   pub f-is : f ≡ checked b .polynomial
   pub degree-is : degree ≡ checked b .degree
+
+-- some answer of the operation, in numbers
+pub record AnswersAs (Of : Answer → Type 0) (r : face.Refused) (f : List ℕ) : Type 0 where
+  pub answer : Answer
+  pub is : Of answer
+  pub refused : r ≡ told (answer .outcome)
+  pub f-is : f ≡ answer .polynomial
+
+-- some two parts of the operation, in numbers
+pub record PartsAs (Of : Parts → Type 0) (r : face.Refused) (g h : List ℕ) : Type 0 where
+  pub parts : Parts
+  pub is : Of parts
+  pub refused : r ≡ told (parts .outcome)
+  pub g-is : g ≡ parts .left
+  pub h-is : h ≡ parts .right

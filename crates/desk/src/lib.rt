@@ -1,6 +1,7 @@
 // The face of the desk for C and Rust: numbers and lent memory only. Every function takes any input.
 ghost use mathlib.Core.Path.{_≡_};
-ghost use Rattle.desk.specs.Face.{told as told-of, CheckedAs};
+ghost use Rattle.pair.specs.Pairing.{compose, LeftPartOf, Splits};
+ghost use Rattle.desk.specs.Face.{told as told-of, CheckedAs, AnswersAs, PartsAs};
 use polynomial::TERMS;
 use refusal::Outcome;
 
@@ -49,5 +50,59 @@ pub extern "C" fn desk_check(
     *f = p;
     *degree = c.degree;
     let outcome = c.outcome;
+    told(outcome)
+}
+
+// g(h).
+#[no_mangle]
+pub extern "C" fn desk_compose(
+    m: u32,
+    g: &[u32; TERMS],
+    h: &[u32; TERMS],
+    f: &mut [u32; TERMS],
+) -> Refused
+    ensures { λ r. ⌜ AnswersAs (λ x. x ≡ compose m (now (g .entry)) (now (h .entry))) r (now (f .exit)) ⌝ }
+{
+    let a = pair::compose(m, *g, *h);
+    let p = a.polynomial;
+    *f = p;
+    let outcome = a.outcome;
+    told(outcome)
+}
+
+// The left part of f for the right part h.
+#[no_mangle]
+pub extern "C" fn desk_left_part(
+    m: u32,
+    f: &[u32; TERMS],
+    h: &[u32; TERMS],
+    g: &mut [u32; TERMS],
+) -> Refused
+    ensures { λ r. ⌜ AnswersAs (LeftPartOf m (now (f .entry)) (now (h .entry))) r (now (g .exit)) ⌝ }
+{
+    let a = pair::left_part(m, *f, *h);
+    let p = a.polynomial;
+    *g = p;
+    let outcome = a.outcome;
+    told(outcome)
+}
+
+// f split at the left degree r.
+#[no_mangle]
+pub extern "C" fn desk_split(
+    m: u32,
+    f: &[u32; TERMS],
+    r: usize,
+    g: &mut [u32; TERMS],
+    h: &mut [u32; TERMS],
+) -> Refused
+    ensures { λ x. ⌜ PartsAs (Splits m (now (f .entry)) r) x (now (g .exit)) (now (h .exit)) ⌝ }
+{
+    let a = pair::split(m, *f, r);
+    let left = a.left;
+    let right = a.right;
+    *g = left;
+    *h = right;
+    let outcome = a.outcome;
     told(outcome)
 }

@@ -5,6 +5,7 @@
 --   then-both                       a and then b pass: both pass
 --   then-assoc                      three checks, in either grouping
 --   stopped, went-on                code that asks `refuses` and returns early does a and then b
+--   refused-by, passed-on           an outcome that refuses is the refusal of its check; one that does not, Answered
 --   a-refusal                       what refuses is some refusal
 --   refuse-answered                 a check that passes: its test does not hold
 use mathlib.Core.Path.{_≡_, refl, sym, _∙_}
@@ -59,3 +60,12 @@ refuse-answered false c r h = refl
 pub a-refusal : (a : Outcome) → is-refused a ≡ true → (r : Refusal) × (a ≡ Refused r)
 a-refusal Answered h = absurd (false≢true h)
 a-refusal (Refused r) h = (r, refl)
+
+module _ {a o : Outcome} {t : Bool} (is : o ≡ a) (tells : t ≡ is-refused o) where
+  -- o, the outcome of the check a, refuses
+  pub refused-by : t ≡ true → (r : Refusal) × (a ≡ Refused r) × (o ≡ Refused r)
+  refused-by h = let (r, e) = a-refusal o (sym tells ∙ h) in (r, sym is ∙ e, e)
+
+  -- it does not
+  pub passed-on : t ≡ false → a ≡ Answered
+  passed-on h = sym is ∙ answered (sym tells ∙ h)

@@ -1,0 +1,18 @@
+use native.Mathlib.Omega.{arith}
+use borrow.Author.Needs.{needs}
+use Rattle.algebra.specs.Polynomial.{limit, terms}
+use Rattle.change.proofs.Scaling.{changed-is}
+use Rattle.change.proofs.changed.Statement.{statement}
+use Rattle.change.proofs.changed.Tie as tie
+
+multiple-requires : tie.Need-multiple-requires
+unfolding terms limit
+multiple-requires c κs = (omega arith, omega arith, omega arith)
+
+returns : tie.Need-returns
+returns c = let a = c .before .before .before .before .before in changed-is (omega arith) _ _ _ _ (a .pre .1 .0) (c .before .power .ensures) (a .pre .0 .0 .long) (c .before .before .before .moved .ensures) (c .multiple .ensures)
+
+pub changed-spec : {M : Type 1} → statement M
+changed-spec =
+    tie.close
+    (tie.spec (λ c κs. search needs) (λ c. search needs) (λ c κs. search needs) multiple-requires returns)

@@ -1,0 +1,18 @@
+use mathlib.Core.Path.{refl}
+use native.Mathlib.Omega.{arith}
+use borrow.Author.Needs.{needs}
+use Rattle.residue.proofs.Congruent.{reduced}
+use Rattle.change.proofs.Scaling.{powers-cancel, changed-pair-is}
+use Rattle.change.proofs.changed_pair.Statement.{statement}
+use Rattle.change.proofs.changed_pair.Tie as tie
+
+changed-requires : tie.Need-changed-requires
+changed-requires c κs = let a = c .before .before .before .before .before .before in (a .pre .0, (powers-cancel _ _ _ _ _ _ (a .pre .1 .1 .0) (reduced (c .power2 .ensures) .same) (reduced (c .before .power .ensures) .same), omega arith, omega arith))
+
+returns : tie.Need-returns
+returns c = changed-pair-is (omega arith) refl (c .before .before .before .before .changed-right .ensures) (c .before .before .power .ensures) (c .changed .ensures)
+
+pub changed-pair-spec : {M : Type 1} → statement M
+changed-pair-spec =
+    tie.close
+    (tie.spec (λ c κs. search needs) (λ c κs. search needs) (λ c κs. search needs) changed-requires returns)
