@@ -3,15 +3,17 @@
 --   told outcome        number, polynomial and power of the refusal; all 0 if it is answered
 --   CheckedAs b r ..    what desk_check returns and writes for the bytes b
 --   AnswersAs Of r f    what a function for an operation that answers one polynomial returns and writes
+--   MadeAs Of r out     the same for an operation that answers a change: its unit and its origin
 --   PartsAs Of r g h    the same for an operation that answers two parts
 use mathlib.Core.Path.{_≡_}
-use mathlib.Core.List.{List}
+use mathlib.Core.List.{List, [], _∷_}
 use Prim.Native.Nat.{ℕ}
 use Rattle.refusal.specs.Refusal.{number, polynomial, power}
 use Rattle.refusal.specs.declared.Outcome.{Outcome}
 use Rattle.refusal.specs.declared.Outcome.the-variants.{Answered, Refused}
 use Rattle.polynomial.specs.declared.Answer.{Answer}
 use Rattle.polynomial.specs.declared.Parts.{Parts}
+use Rattle.change.specs.declared.Made.{Made}
 use Rattle.record.specs.Record.{checked}
 use Rattle.desk.specs.declared.Refused as face
 
@@ -41,3 +43,10 @@ pub record PartsAs (Of : Parts → Type 0) (r : face.Refused) (g h : List ℕ) :
   pub refused : r ≡ told (parts .outcome)
   pub g-is : g ≡ parts .left
   pub h-is : h ≡ parts .right
+
+-- some change of the operation, in numbers
+pub record MadeAs (Of : Made → Type 0) (r : face.Refused) (out : List ℕ) : Type 0 where
+  pub made : Made
+  pub is : Of made
+  pub refused : r ≡ told (made .outcome)
+  pub out-is : out ≡ made .change .unit ∷ made .change .origin ∷ []

@@ -1,7 +1,9 @@
 // The face of the desk for C and Rust: numbers and lent memory only. Every function takes any input.
 ghost use mathlib.Core.Path.{_≡_};
 ghost use Rattle.pair.specs.Pairing.{compose, LeftPartOf, Splits};
-ghost use Rattle.desk.specs.Face.{told as told-of, CheckedAs, AnswersAs, PartsAs};
+ghost use Rattle.change.specs.Changing.{ChangesPolynomial, ChangesPair, Combines, Undoing};
+ghost use Rattle.desk.specs.Face.{told as told-of, CheckedAs, AnswersAs, PartsAs, MadeAs};
+use change::Change;
 use polynomial::TERMS;
 use refusal::Outcome;
 
@@ -104,5 +106,83 @@ pub extern "C" fn desk_split(
     *g = left;
     *h = right;
     let outcome = a.outcome;
+    told(outcome)
+}
+
+// f changed by (a, b).
+#[no_mangle]
+pub extern "C" fn desk_change_polynomial(
+    m: u32,
+    f: &[u32; TERMS],
+    a: u32,
+    b: u32,
+    out: &mut [u32; TERMS],
+) -> Refused
+    ensures { λ r. ⌜ AnswersAs (ChangesPolynomial m (now (f .entry)) (record { unit = a; origin = b })) r (now (out .exit)) ⌝ }
+{
+    let x = change::change_polynomial(m, *f, Change { unit: a, origin: b });
+    let p = x.polynomial;
+    *out = p;
+    let outcome = x.outcome;
+    told(outcome)
+}
+
+// The pair g, h changed by (a, b).
+#[no_mangle]
+pub extern "C" fn desk_change_pair(
+    m: u32,
+    g: &[u32; TERMS],
+    h: &[u32; TERMS],
+    a: u32,
+    b: u32,
+    left: &mut [u32; TERMS],
+    right: &mut [u32; TERMS],
+) -> Refused
+    ensures { λ r. ⌜ PartsAs (ChangesPair m (now (g .entry)) (now (h .entry)) (record { unit = a; origin = b })) r (now (left .exit)) (now (right .exit)) ⌝ }
+{
+    let x = change::change_pair(m, *g, *h, Change { unit: a, origin: b });
+    let p = x.left;
+    let q = x.right;
+    *left = p;
+    *right = q;
+    let outcome = x.outcome;
+    told(outcome)
+}
+
+// First (a, b), then (a2, b2), as one change: its unit and its origin.
+#[no_mangle]
+pub extern "C" fn desk_combine(
+    m: u32,
+    a: u32,
+    b: u32,
+    a2: u32,
+    b2: u32,
+    out: &mut [u32; 2],
+) -> Refused
+    ensures { λ r. ⌜ MadeAs (Combines m (record { unit = a; origin = b }) (record { unit = a2; origin = b2 })) r (now (out .exit)) ⌝ }
+{
+    let x = Change::combine(
+        m,
+        Change { unit: a, origin: b },
+        Change {
+            unit: a2,
+            origin: b2,
+        },
+    );
+    let c = x.change;
+    *out = [c.unit, c.origin];
+    let outcome = x.outcome;
+    told(outcome)
+}
+
+// The change that undoes (a, b).
+#[no_mangle]
+pub extern "C" fn desk_undo(m: u32, a: u32, b: u32, out: &mut [u32; 2]) -> Refused
+    ensures { λ r. ⌜ MadeAs (Undoing m (record { unit = a; origin = b })) r (now (out .exit)) ⌝ }
+{
+    let x = Change::undo(m, Change { unit: a, origin: b });
+    let c = x.change;
+    *out = [c.unit, c.origin];
+    let outcome = x.outcome;
     told(outcome)
 }
