@@ -1,6 +1,7 @@
 -- The forced right part and its left part are the pair, or there is none.
 --
 --   forced-pair      a left part for the forced right part makes the normal pair
+--   fits-below       degrees that fit are within the limit
 --   forced-none      no left part for the forced right part: no pair at all
 use mathlib.Core.List.{List}
 use Prim.Native.Nat.{ℕ, _<_}
@@ -26,7 +27,7 @@ forced-pair right left = record {
 }
 
 -- a degree that fits is within the limit
-fits-below : {n r s : ℕ} → Degrees n r s → (r < terms) × (s < terms)
+pub fits-below : {n r s : ℕ} → Degrees n r s → (r < terms) × (s < terms)
 unfolding terms
 fits-below {n} {r} {s} d = (omega (arith, d .product, N.mul-le-mul-left r (d .two-right)), omega (arith, d .product, N.mul-le-mul-right s (d .two-left)))
 

@@ -1,0 +1,114 @@
+-- Demand 3 for one split, over the contracts of split and change.
+--
+--   split-changed     splitting the changed f gives the changed pair; and every refusal, "no pair" included, is that of f
+use mathlib.Core.Path.{_≡_, refl, sym, ap, _∙_}
+use mathlib.Core.Bool.{not}
+use mathlib.Core.List.{List}
+use Prim.Native.Nat.{ℕ, _/_, _<_}
+use native.Mathlib.Omega.{arith}
+use lib.ListN.{length}
+use Rattle.algebra.specs.Polynomial.{degree, terms, Monic, Reduced}
+use Rattle.algebra.specs.Pair.{NormalPair, NoPair}
+use Rattle.algebra.specs.Change.{Changed, ChangedPair}
+use Rattle.algebra.proofs.Reduction.{degree-monic}
+use Rattle.algebra.proofs.Factors.{coprime-invertible}
+use Rattle.algebra.proofs.Changes.{changed-monic}
+use Rattle.algebra.proofs.Pairs as P
+use Rattle.refusal.specs.declared.Refusal.{Refusal}
+use Rattle.refusal.specs.declared.Outcome.{Outcome}
+use Rattle.refusal.specs.declared.Outcome.the-variants.{Answered, Refused}
+use Rattle.polynomial.specs.Checks.{check-one, check-pair, Accepted}
+use Rattle.polynomial.specs.Answers.{no-parts}
+use Rattle.polynomial.specs.Degrees.{Degrees}
+use Rattle.polynomial.specs.declared.Parts.{Parts}
+use Rattle.polynomial.proofs.Acceptance.{accepted-one, one-accepted, accepted-as, pair-accepted}
+use Rattle.pair.specs.Pairing.{check-split, Splits}
+use Rattle.pair.specs.Pairing as pairing
+use Rattle.pair.proofs.Forcing.{fits-below}
+use Rattle.pair.proofs.Determined.{split-accepted, split-determined}
+use Rattle.change.specs.declared.Change.{Change}
+use Rattle.change.specs.Changing.{Proper, ChangesPair}
+use Rattle.change.specs.Changing as changing
+use Rattle.change.proofs.Determined.{change-pair-determined}
+
+-- f is accepted, and f′ is f changed by c
+pub record Altered (m : ℕ) (c : Change) (f f′ : List ℕ) : Type 0 where
+  pub long : length f ≡ terms
+  pub accepted : check-one m f ≡ Answered
+  pub proper : Proper m c
+  pub reduced : Reduced m f′
+  pub changed : Changed m (degree f) (c .unit) (c .origin) f f′
+
+module _ {m : ℕ} {c : Change} {f f′ : List ℕ} (x : Altered m c f f′) where
+  taken : Accepted m f
+  taken = accepted-one (x .long) (x .accepted)
+
+  one : 1 < m
+  one = let (rf, mf, two, l, o, w) = accepted-as refl taken in o
+
+  pos : 0 < m
+  pos = let o = one in omega arith
+
+  changed-is-monic : Monic m (degree f) f′
+  changed-is-monic = let (rf, mf, two, l, o, w) = accepted-as refl taken in changed-monic pos (omega arith) (coprime-invertible m pos (x .proper .invertible)) mf (x .changed)
+
+  pub same-degree : degree f′ ≡ degree f
+  same-degree = let o = one in degree-monic (omega arith) (x .reduced) changed-is-monic
+
+  pub changed-accepted : check-one m f′ ≡ Answered
+  changed-accepted = one-accepted (record { low = taken .low; high = taken .high; reduced = x .reduced; monic = rw same-degree changed-is-monic; two = rw same-degree (taken .two) })
+
+  -- the checks of a split look at the degree only
+  same-checks : (r : ℕ) → check-split m f′ r ≡ check-split m f r
+  unfolding check-split
+  same-checks r = rw (changed-accepted, x .accepted, same-degree)
+
+  -- past the checks
+  module _ (r : ℕ) (e : check-split m f r ≡ Answered) where
+    fit : Degrees (degree f) r (degree f / r)
+    fit = split-accepted (x .long) e .1
+
+    -- what the changed pair is, the desk's change of the pair answers
+    changed-pair-is : {g h g′ h′ : List ℕ} {w : Parts} → NormalPair m f r (degree f / r) g h → NormalPair m f′ r (degree f / r) g′ h′
+        → ChangedPair m r (degree f / r) (c .unit) (c .origin) g h g′ h′ → ChangesPair m g h c w → record { outcome = Answered; left = g′; right = h′ } ≡ w
+    changed-pair-is {g} {h} {g′} {h′} p q k a = change-pair-determined (changing.changed {g′ = g′} {h′ = h′} checked (x .proper) (q .reduced-left) (q .reduced-right) (rw (dg, dh) k) refl) a
+      where
+        dg : degree g ≡ r
+        dg = let o = one in degree-monic (omega arith) (p .reduced-left) (p .pair .left)
+
+        dh : degree h ≡ degree f / r
+        dh = let o = one in degree-monic (omega arith) (p .reduced-right) (p .pair .right)
+
+        checked : check-pair m g h ≡ Answered
+        checked = pair-accepted
+            (record { low = taken .low; high = taken .high; reduced = p .reduced-left; monic = rw dg (p .pair .left); two = rw dg (fit .two-left) })
+            (record { low = taken .low; high = taken .high; reduced = p .reduced-right; monic = rw dh (p .pair .right); two = rw dh (fit .two-right) })
+            (rw (dg, dh, fit .product) (fit .within))
+
+  -- no pair of f is no pair of the changed f
+  unsplit : (r : ℕ) → check-split m f r ≡ Answered → NoPair m f r (degree f / r) → NoPair m f′ r (degree f / r)
+  unsplit r e n = let w = fit r e in P.no-pair-changed pos (omega (arith, w .two-left)) (omega (arith, w .two-right)) (w .product) (coprime-invertible m pos (x .proper .invertible)) (x .changed) .0 n
+
+  -- an answer and a refusal are not the same
+  not-answered : {o : Outcome} {e : Refusal} {y : Parts} → o ≡ Refused e → y ≡ no-parts o → y .outcome ≡ Answered → ⊥
+  unfolding no-parts
+  not-answered q p a = let z : _≡_ {A = ℕ} 0 1 = cc (ap (λ (w : Parts). w .outcome) p) in omega arith
+
+  -- the changed pair of an answer is the answer for the changed f; any other answer is the same for both
+  pub split-changed : (r : ℕ) {y z : Parts} → Splits m f r y → Splits m f′ r z
+      → (y .outcome ≡ Answered → (w : Parts) → ChangesPair m (y .left) (y .right) c w → z ≡ w) × ((y .outcome ≡ Answered → ⊥) → z ≡ y)
+  split-changed r {y} {z} (pairing.refused e p) s =
+      let q = split-determined (x .reduced .long) s (pairing.refused (same-checks r ∙ e) refl) in
+      (λ a. absurd (not-answered refl p a), λ n. q ∙ sym p)
+  split-changed r {y} {z} (pairing.shared e d p) s =
+      let q = split-determined (x .reduced .long) s (pairing.shared (same-checks r ∙ e) d refl) in
+      (λ a. absurd (not-answered refl p a), λ n. q ∙ sym p)
+  split-changed r {y} {z} (pairing.none e d n p) s =
+      let q = split-determined (x .reduced .long) s (pairing.none (same-checks r ∙ e) d (rw same-degree (unsplit r e n)) refl) in
+      (λ a. absurd (not-answered refl p a), λ n. q ∙ sym p)
+  split-changed r {y} {z} (pairing.found {g = g} {h = h} e d n p) s =
+      let w = fit r e in
+      let (g′, h′, k, n′) = P.changed-pair-exists pos (omega (arith, w .two-left)) (omega (arith, w .two-right)) (fits-below w .0) (fits-below w .1) (w .product)
+      (coprime-invertible m pos (x .proper .invertible)) (n .pair) (x .changed) in
+      let q = split-determined (x .reduced .long) s (pairing.found {g = g′} {h = h′} (same-checks r ∙ e) d (rw same-degree n′) refl) in
+      (λ a v b. q ∙ changed-pair-is r e n n′ k (rw p at b), λ b. absurd (b (ap (λ (v : Parts). v .outcome) p)))
