@@ -1,6 +1,7 @@
 //! Times the desk's code beside the same method in plain Rust, in one run, on the same inputs.
 //! Every answer is compared first: a faster wrong answer does not count.
 
+mod change;
 mod plain;
 mod residue;
 mod split;
@@ -13,4 +14,5 @@ fn main() {
     );
     residue::run();
     split::run();
+    change::run();
 }
