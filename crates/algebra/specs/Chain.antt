@@ -1,13 +1,10 @@
 -- The chain of f by 01's rule. Parts are listed FROM THE RIGHT: the part next to x first.
 --
---   divides d n              1 if d divides n, and 0 if not
---   tested n s               how many right degrees from 2 up to s divide n
+--   divides d n, tested n s  1 if d divides n, and 0 if not; how many right degrees from 2 up to s divide n
 --   Chain m n f parts t      the chain of f, monic of degree n, with its tries t
 --   composed parts           what the parts compose to
---   part parts i             the i-th part from the right
---   Part m p                 what every part is: reduced, monic, of degree 2 or more
---   degrees parts            their degrees, left to right of the list; `product` multiplies a list
---   price parts              the sum of what each part costs
+--   part parts i, Part m p   the i-th part from the right; what every part is
+--   degrees, product, price  the degrees of the parts, what they multiply to, and what the parts cost
 --   Carried m a b ps ps′     the change (a, b) carried along the parts from the right
 use mathlib.Core.Path.{_≡_}
 use mathlib.Core.List.{List, [], _∷_}

@@ -1,11 +1,9 @@
 -- Whole numbers: sums, binomials, common factors, inverses modulo m.
 --
---   table n f              the list f(0), .., f(n - 1)
---   sum n f                f(0) + .. + f(n - 1)
+--   table n f, sum n f     the list f(0), .., f(n - 1), and f(0) + .. + f(n - 1)
 --   choose j i             C(j, i), by Pascal's rule
 --   GreatestFactor a b d   d is the greatest common factor of a and b
---   Coprime a m            a and m share no factor above 1
---   Invertible m a         a has an inverse modulo m
+--   Coprime, Invertible    a and m share no factor above 1; a has an inverse modulo m
 use mathlib.Core.Path.{_≡_}
 use mathlib.Core.List.{List, [], _∷_}
 use Prim.Native.Nat.{ℕ, zero, suc, _+_, _*_, _%_, _∣_}

@@ -1,8 +1,7 @@
 -- Pairs: f(x) = g(h(x)) modulo m with g and h monic. g is the left part, h the right part.
 --
 --   Pair m f r s g h         g of degree r and h of degree s compose to f
---   Normal m h               h(0) = 0
---   NormalPair m f r s g h   a pair as the desk hands it out: normal, and both parts reduced
+--   Normal m h, NormalPair   h(0) = 0; a pair as the desk hands it out: normal, and both parts reduced
 --   NoPair m f r s           no g and h whatever, normal or not, reduced or not
 --   SplitsRight m n f s      f, of degree n, splits with a right part of degree s
 --   Unsplit m p              p splits at no r

@@ -3,10 +3,8 @@
 --
 --   coef p i                       the coefficient of x^i
 --   plus, scaled, times, power     sums and products
---   after g h                      g(h(x))
---   value p b                      p(b)
---   Same m p q                     p and q are equal modulo m
---   Monic m n p                    p is monic of degree n modulo m
+--   after g h, value p b           g(h(x)), and p(b)
+--   Same m p q, Monic m n p        equal modulo m; monic of degree n modulo m
 --   limit, terms                   the highest degree at the desk, and how many coefficients that makes
 --   Reduced m p                    p as the desk holds it: `terms` coefficients, each below m
 --   degree p                       the largest i whose coefficient is not zero

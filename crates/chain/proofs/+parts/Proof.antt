@@ -1,0 +1,102 @@
+use Prim.Native.Nat.{ℕ, _<_}
+use native.Mathlib.Omega.{arith}
+use borrow.Author.Needs.{needs}
+use borrow.Author.Tests.{not-true, not-false}
+use borrow.Fn.Kinds.{In}
+use borrow.Fn.PlainCycle.{Measures, is, falls, and}
+use Rattle.algebra.specs.Polynomial.{terms, limit}
+use Rattle.area.specs.Area.{most-parts, area-words}
+use Rattle.chain.proofs.Rounds.{left-coprime}
+use Rattle.chain.proofs.Placing.{chained-whole, chained-more, chained-within, next-place, left-less}
+use Rattle.chain.proofs.parts.Reads as parts
+use Rattle.chain.proofs.parts.Kinds as parts-kinds
+use Rattle.chain.proofs.+parts.Lts-parts as parts-lts
+use Rattle.area.proofs.put.Reads as put-reads
+use Rattle.chain.proofs.first_split.Reads as first-split-reads
+use Rattle.chain.proofs.+parts.{statement}
+use Rattle.chain.proofs.+parts.Tie.{close}
+
+-- the degree falls
+abbrev μ-parts : Measures 2 parts-kinds.ps ℕ
+μ-parts κs a = a .1 .0
+
+abbrev parts-at : ℕ → In 2 parts-kinds.ps
+parts-at t = and 2 parts-kinds.ps (is 2 parts-kinds.ps μ-parts t) parts.Pre
+
+abbrev parts-below : ℕ → In 2 parts-kinds.ps
+parts-below t = and 2 parts-kinds.ps (falls 2 parts-kinds.ps _<_ μ-parts t) parts.Pre
+
+abbrev parts-claims : ℕ → parts-lts.Claims
+parts-claims t = (first-split-reads.Asked, first-split-reads.Learnt, put-reads.Asked, put-reads.Learnt, parts-below t, parts.Post)
+
+parts-returns : (t : ℕ) → parts-lts.Need-returns (parts-claims t) (parts-at t) parts.Post
+parts-returns t c =
+    let p = c .before .before .before .before .before .before .before .before .before .pre .1 in
+    rw (c .before .before .put .ensures) (chained-whole _ (p .1 .1) (p .0 .1) (p .0 .0) (c .before .before .before .before .before .before .before .first-split .ensures .no (not-true _ (c .before .before .before .before .before .if1 .taken))))
+
+parts-div-parts : (t : ℕ) → parts-lts.Need-div-parts (parts-claims t) (parts-at t) parts.Post
+parts-div-parts t c = let z = c .before .before .before .before .first-split .ensures .yes (not-false _ (c .before .before .if1 .left)) in omega (arith, z .two-right)
+
+parts-parts-requires : (t : ℕ) → parts-lts.Need-parts-requires (parts-claims t) (parts-at t) parts.Post
+parts-parts-requires t c κs =
+    let p = c .before .before .before .before .before .before .before .pre .1 in
+    let z = c .before .before .before .before .before .first-split .ensures .yes (not-false _ (c .before .before .before .if1 .left)) in
+    let l = left-less z in
+    (omega arith, ((z .pair .reduced-left, z .pair .pair .left, left-coprime _ (p .1 .1) (p .0 .2) (z .product), z .two-left, omega arith, p .0 .5), p .1))
+
+parts-put-requires-2 : (t : ℕ) → parts-lts.Need-put-requires-2 (parts-claims t) (parts-at t) parts.Post
+parts-put-requires-2 t c κs =
+    let p = c .before .before .before .before .before .before .before .before .before .before .before .before .pre .1 in
+    let z = c .before .before .before .before .before .before .before .before .before .before .first-split .ensures .yes (not-false _ (c .before .before .before .before .before .before .before .before .if1 .left)) in
+    (omega (arith, next-place z (c .before .before .before .before .parts .ensures) (p .0 .3) (p .0 .4)), omega arith, z .pair .reduced-right .long)
+
+parts-add-t19 : (t : ℕ) → parts-lts.Need-add-t19 (parts-claims t) (parts-at t) parts.Post
+unfolding most-parts
+parts-add-t19 t c =
+    let p = c .before .before .before .before .before .before .before .before .before .before .before .before .before .before .before .before .pre .1 in
+    let z = c .before .before .before .before .before .before .before .before .before .before .before .before .before .before .first-split .ensures .yes (not-false _ (c .before .before .before .before .before .before .before .before .before .before .before .before .if1 .left)) in
+    omega (arith, next-place z (c .before .before .before .before .before .before .before .before .parts .ensures) (p .0 .3) (p .0 .4))
+
+parts-add-t27 : (t : ℕ) → parts-lts.Need-add-t27 (parts-claims t) (parts-at t) parts.Post
+unfolding limit
+parts-add-t27 t c =
+    let p = c .before .before .before .before .before .before .before .before .before .before .before .before .before .before .before .before .before .before .pre .1 in
+    let z = c .before .before .before .before .before .before .before .before .before .before .before .before .before .before .before .before .first-split .ensures .yes (not-false _ (c .before .before .before .before .before .before .before .before .before .before .before .before .before .before .if1 .left)) in
+    omega (arith, p .0 .4, chained-within (p .1 .1) (chained-more z (c .before .before .before .before .before .before .before .before .before .before .parts .ensures) (p .1 .1)) .0)
+
+parts-add-t28 : (t : ℕ) → parts-lts.Need-add-t28 (parts-claims t) (parts-at t) parts.Post
+unfolding limit
+parts-add-t28 t c =
+    let p = c .before .before .before .before .before .before .before .before .before .before .before .before .before .before .before .before .before .before .before .pre .1 in
+    let z = c .before .before .before .before .before .before .before .before .before .before .before .before .before .before .before .before .before .first-split .ensures .yes (not-false _ (c .before .before .before .before .before .before .before .before .before .before .before .before .before .before .before .if1 .left)) in
+    omega (arith, p .0 .4, chained-within (p .1 .1) (chained-more z (c .before .before .before .before .before .before .before .before .before .before .before .parts .ensures) (p .1 .1)) .1)
+
+parts-returns-2 : (t : ℕ) → parts-lts.Need-returns-2 (parts-claims t) (parts-at t) parts.Post
+parts-returns-2 t c =
+    let p = c .before .before .before .before .before .before .before .before .before .before .before .before .before .before .before .before .before .before .before .pre .1 in
+    let z = c .before .before .before .before .before .before .before .before .before .before .before .before .before .before .before .before .before .first-split .ensures .yes (not-false _ (c .before .before .before .before .before .before .before .before .before .before .before .before .before .before .before .if1 .left)) in
+    rw (c .before .before .before .before .before .before .put2 .ensures) (chained-more z (c .before .before .before .before .before .before .before .before .before .before .before .parts .ensures) (p .1 .1))
+
+pub +parts-spec : {M : Type 1} → statement M
+unfolding terms limit most-parts area-words
++parts-spec =
+    close
+    μ-parts
+    λ t. parts-lts.spec
+    (parts-claims t)
+    (parts-at t)
+    parts.Post
+    (λ c κs. search needs)
+    (λ c. search needs)
+    (λ c κs. search needs)
+    (λ c. search needs)
+    (parts-returns t)
+    (parts-div-parts t)
+    (parts-parts-requires t)
+    (λ c. search needs)
+    (parts-put-requires-2 t)
+    (parts-add-t19 t)
+    (parts-add-t27 t)
+    (parts-add-t28 t)
+    (λ c. search needs)
+    (parts-returns-2 t)

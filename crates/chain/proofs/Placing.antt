@@ -1,0 +1,90 @@
+-- Parts in the places of an area.
+--
+--   tries-within, price-within     tries and price are at most n, so that they fit a word
+--   parts-within                   so many parts have a place
+--   chain-full                     every part fills its place
+--   split-part, split-chain        the left part of a first split, and the chain made of it
+--   chained-whole                  f in the first place: the chain of an f with no split
+--   chained-more                   the right part of the first split in the next place after those of the left part
+use mathlib.Core.Path.{_≡_, refl, sym, ap, _∙_}
+use mathlib.Core.List.{List, [], _∷_, _++_}
+use Prim.Native.Nat.{ℕ, suc, _+_, _*_, _/_, _≤_, _<_}
+use native.Mathlib.Nat as N
+use native.Mathlib.Omega.{arith}
+use native.Mathlib.Decide.{decLt}
+use native.Mathlib.Numerals.{add-one}
+use lib.ListN.{length, drop}
+use Rattle.algebra.specs.Polynomial.{terms, limit, Monic, Reduced}
+use Rattle.algebra.specs.Chain.{Chain, whole, step, price, cost}
+use Rattle.algebra.proofs.Chains.{chain-length}
+use Rattle.algebra.proofs.Reduction.{degree-monic}
+use Rattle.area.specs.Area.{most-parts, put-at, laid}
+use Rattle.area.proofs.Laying.{Full, laid-none, laid-more, put-next}
+use Rattle.chain.specs.Chaining.{FirstSplit, NoSplit, ChainedIn}
+use Rattle.chain.proofs.Rounds.{tested-few}
+
+-- two numbers of 2 or more multiply to no less than they add up to
+sum-within : {r s n : ℕ} → 2 ≤ r → 2 ≤ s → r * s ≡ n → r + s ≤ n
+sum-within {r} {s} a b e = omega (arith, e, N.mul-le-mul-left r b, N.mul-le-mul-right s a)
+
+module _ {m : ℕ} where
+  tries-within : {n t : ℕ} {f : List ℕ} {parts : List (List ℕ)} → Chain m n f parts t → t ≤ n
+  tries-within (whole {n = n} a b none) = omega (arith, tested-few n (n / 2))
+  tries-within (step {n = n} {s = s} a b e first p k) = omega (arith, tested-few n s, tries-within k, sum-within a b e)
+
+  price-within : {n t : ℕ} {f : List ℕ} {parts : List (List ℕ)} → 2 ≤ m → Chain m n f parts t → price parts ≤ n
+  unfolding price cost
+  price-within two (whole a b none) = omega (arith, degree-monic two b a)
+  price-within two (step a b e first p k) = omega (arith, degree-monic two (p .reduced-right) (p .pair .right), price-within two k, sum-within a b e)
+
+  pub chain-full : {n t : ℕ} {f : List ℕ} {parts : List (List ℕ)} → Chain m n f parts t → Full parts
+  chain-full (whole {f = f} a b none) = laid-more f (b .long) laid-none
+  chain-full (step {h = h} a b e first p k) = laid-more h (p .reduced-right .long) (chain-full k)
+
+  -- one part more would have a degree above the limit
+  pub parts-within : {n t : ℕ} {f : List ℕ} {parts : List (List ℕ)} → 2 ≤ n → n ≤ limit → Chain m n f parts t → length parts ≤ most-parts
+  unfolding limit most-parts
+  parts-within {parts = parts} two l k = go (decLt most-parts (length parts))
+    where
+      go : Dec (most-parts < length parts) → length parts ≤ most-parts
+      go (yes h) = absurd (omega (arith, chain-length two k, N.pow-le-pow-right {n = 2} (omega arith) {i = suc most-parts} {j = length parts} h))
+      go (no h) = omega arith
+
+  -- f in the first place
+  pub chained-whole : {n t : ℕ} {f : List ℕ} (xs : List ℕ) → 2 ≤ m → Monic m n f → Reduced m f → NoSplit m n f t → ChainedIn m n f xs (put-at xs 0 f) 1 t n
+  unfolding price cost laid
+  chained-whole {n} {t} {f} xs two mon red z = record {
+    parts = f ∷ [];
+    chain = rw (z .tries) (whole mon red (z .none));
+    count-is = refl;
+    cost-is = omega (arith, degree-monic two red mon);
+    area = ap (λ (k : ℕ). put-at (drop k xs) 0 f) (sym (N.zero-mul terms)) ∙ put-next xs f refl laid-none;
+  }
+
+  module _ {n s t : ℕ} {f g h : List ℕ} (z : FirstSplit m n f s t g h) where
+    -- the left part has the smaller degree
+    pub left-less : n / s < n
+    left-less = omega (arith, z .two-right, sum-within (z .two-left) (z .two-right) (z .product))
+
+    split-chain : {u : ℕ} {parts : List (List ℕ)} → Chain m (n / s) g parts u → Chain m n f (h ∷ parts) (t + u)
+    split-chain {u} {parts} k = rw (z .tries) (step {parts = parts} (z .two-left) (z .two-right) (z .product) (z .first) (z .pair) k)
+
+    module _ {xs ys : List ℕ} {k u c : ℕ} (q : ChainedIn m (n / s) g xs ys k u c) where
+      -- there is a next place
+      pub next-place : 2 ≤ n → n ≤ limit → k < most-parts
+      next-place two l = omega (arith, q .count-is, parts-within two l (split-chain (q .chain)))
+
+      -- and the right part goes there
+      pub chained-more : 2 ≤ m → ChainedIn m n f xs (put-at ys k h) (k + 1) (t + u) (c + s)
+      unfolding price cost
+      chained-more two = record {
+        parts = h ∷ q .parts;
+        chain = split-chain (q .chain);
+        count-is = omega (arith, q .count-is);
+        cost-is = omega (arith, q .cost-is, degree-monic two (z .pair .reduced-right) (z .pair .pair .right));
+        area = ap (λ (l : List ℕ). put-at l k h) (q .area) ∙ put-next xs h (sym (q .count-is)) (chain-full (q .chain)) ∙ ap (λ (n : ℕ). laid (h ∷ q .parts) ++ drop (n * terms) xs) (sym (add-one k));
+      }
+
+  -- its tries and its price fit a word
+  pub chained-within : {n k u c : ℕ} {f xs ys : List ℕ} → 2 ≤ m → ChainedIn m n f xs ys k u c → (u ≤ n) × (c ≤ n)
+  chained-within two q = (tries-within (q .chain), omega (arith, q .cost-is, price-within two (q .chain)))

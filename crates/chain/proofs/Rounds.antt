@@ -1,0 +1,139 @@
+-- The round over the right degrees: what holds of those that were passed.
+--
+--   tested-few                       at most as many tries as right degrees
+--   Passed m n f s t                 f splits at no right degree below s, and t of those were tested
+--   passed-none, passed-few          no right degree is below 2; there are fewer tries than s
+--   passed-over, passed-missed       one that does not divide n; one at which there is no pair
+--   passed-hit                       one at which there is a pair: the first split
+--   passed-all                       all up to n/2: there is no split
+--   half-degrees                     a divisor up to n/2 is the right degree of a pair
+--   left-coprime                     a left degree shares no factor with m, as n does not
+--   hit, miss                        what a verdict says
+use mathlib.Core.Path.{_≡_, refl, sym, ap, subst, _∙_}
+use mathlib.Core.Bool.{true, false, false≢true}
+use mathlib.Core.List.{List}
+use Prim.Native.Nat.{ℕ, zero, suc, _+_, _*_, _-_, _/_, _%_, _≤_, _<_}
+use native.Mathlib.Nat as N
+use native.Mathlib.Numerals.{sub-one}
+use native.Mathlib.Omega.{arith}
+use borrow.Author.Count.{below-more}
+use Rattle.algebra.specs.Number.{Coprime}
+use Rattle.algebra.specs.Polynomial.{limit}
+use Rattle.algebra.specs.Pair.{Pair, NormalPair, NoPair, SplitsRight}
+use Rattle.algebra.specs.Chain.{divides, tested}
+use Rattle.algebra.proofs.Factors.{coprime-invertible, invertible-coprime, invertible-left}
+use Rattle.polynomial.specs.Degrees.{Degrees}
+use Rattle.pair.specs.Pairing.{Halved}
+use Rattle.pair.specs.declared.Verdict.{Verdict}
+use Rattle.pair.specs.declared.Verdict.the-variants as verdict
+use Rattle.chain.specs.Chaining.{pairs, FirstSplit, Searched}
+
+divides-yes : (d n : ℕ) → n % d ≡ 0 → divides d n ≡ 1
+unfolding divides
+divides-yes d n e = rw (e, divides)
+
+divides-no : (d n : ℕ) → (n % d ≡ 0 → ⊥) → divides d n ≡ 0
+unfolding divides
+divides-no d n h = go (n % d) refl
+  where
+    go : (e : ℕ) → n % d ≡ e → divides d n ≡ 0
+    go zero e = absurd (h e)
+    go (suc k) e = rw (e, divides)
+
+divides-few : (d n : ℕ) → divides d n ≤ 1
+unfolding divides
+divides-few d n = go (n % d) refl
+  where
+    go : (e : ℕ) → n % d ≡ e → divides d n ≤ 1
+    go zero e = rw (e, divides) (omega arith)
+    go (suc k) e = rw (e, divides) (omega arith)
+
+tested-at : (n s : ℕ) → 2 ≤ s → tested n s ≡ tested n (s - 1) + divides s n
+unfolding tested
+tested-at n zero l = absurd (omega arith)
+tested-at n (suc zero) l = absurd (omega arith)
+tested-at n (suc (suc d)) l = rw (sub-one (suc (suc d)))
+
+pub tested-few : (n s : ℕ) → tested n s ≤ s
+unfolding tested
+tested-few n zero = omega arith
+tested-few n (suc zero) = omega arith
+tested-few n (suc (suc s)) = omega (arith, tested-few n (suc s), divides-few (suc (suc s)) n)
+
+-- f splits at no right degree below s, and t of those were tested
+pub record Passed (m n : ℕ) (f : List ℕ) (s t : ℕ) : Type 0 where
+  pub two : 2 ≤ s
+  pub none : (d : ℕ) → d < s → SplitsRight m n f d → ⊥
+  pub tries : t ≡ tested n (s - 1)
+
+pub passed-none : (m n : ℕ) (f : List ℕ) → Passed m n f 2 0
+unfolding tested
+passed-none m n f = record { two = omega arith; none = λ d l w. omega (arith, w .two-right); tries = refl }
+
+module _ {m n s t : ℕ} {f : List ℕ} (p : Passed m n f s t) where
+  positive : 0 < s
+  positive = omega (arith, p .two)
+
+  -- s counts if it divides n
+  counted : tested n s ≡ t + divides s n
+  counted = omega (arith, p .tries, tested-at n s (p .two))
+
+  -- fewer tries than right degrees, so that they fit a word
+  pub passed-few : t < s
+  passed-few = omega (arith, p .two, p .tries, tested-few n (s - 1))
+
+  passed-more : {u : ℕ} → (SplitsRight m n f s → ⊥) → u ≡ t + divides s n → Passed m n f (s + 1) u
+  passed-more {u} none e = record {
+    two = omega (arith, p .two);
+    none = below-more (λ d. SplitsRight m n f d → ⊥) s (p .none) none;
+    tries = e ∙ sym counted ∙ ap (tested n) (sym (N.add-sub-cancel s 1));
+  }
+
+  -- a right degree of a pair divides n
+  pub passed-over : (n % s ≡ 0 → ⊥) → Passed m n f (s + 1) t
+  passed-over h = passed-more (λ w. h (ap (λ (x : ℕ). x % s) (sym (w .degrees)) ∙ N.mul-mod-left (w .r) s)) (omega (arith, divides-no s n h))
+
+  -- the pair at a right degree s has the left degree n/s
+  pub passed-missed : n % s ≡ 0 → NoPair m f (n / s) s → Passed m n f (s + 1) (t + 1)
+  passed-missed h none = passed-more (λ w. none (w .g) (w .h) (subst (λ (r : ℕ). Pair m f r s (w .g) (w .h)) (left w) (w .pair))) (omega (arith, divides-yes s n h))
+    where
+      left : (w : SplitsRight m n f s) → w .r ≡ n / s
+      left w = sym (N.mul-div-cancel (w .r) positive) ∙ ap (λ (x : ℕ). x / s) (w .degrees)
+
+  -- a divisor up to n/2 is the right degree of a pair
+  pub half-degrees : n % s ≡ 0 → s ≤ n / 2 → n ≤ limit → Degrees n (n / s) s
+  half-degrees h l k = record { product = omega (arith, N.div-add-mod' n s); within = k; two-left = N.le-div-iff-mul-le positive .1 (omega arith); two-right = p .two }
+
+  -- the first right degree at which f splits
+  pub passed-hit : {g h : List ℕ} → n % s ≡ 0 → Degrees n (n / s) s → NormalPair m f (n / s) s g h → Searched m n f true s (t + 1) g h
+  passed-hit e d q = record {
+    yes = λ z. record { two-left = d .two-left; two-right = d .two-right; product = d .product; first = p .none; pair = q; tries = omega (arith, counted, divides-yes s n e) };
+    no = λ z. absurd (false≢true (sym z));
+  }
+
+  -- a right degree of a pair is at most n/2
+  pub passed-all : {d : ℕ} {g h : List ℕ} → n / 2 < s → s ≤ n / 2 + 1 → Searched m n f false d t g h
+  passed-all a b = record { yes = λ z. absurd (false≢true z); no = λ z. record { none = λ d w. p .none d (omega (arith, half d w)) w; tries = p .tries ∙ ap (tested n) last } }
+    where
+      half : (d : ℕ) → SplitsRight m n f d → d ≤ n / 2
+      half d w = omega (arith, w .degrees, N.mul-le-mul-right d (w .two-left))
+
+      last : s - 1 ≡ n / 2
+      last = omega arith
+
+-- a factor of n shares no factor with m, as n does not
+pub left-coprime : {m n r : ℕ} (s : ℕ) → 1 < m → Coprime n m → r * s ≡ n → Coprime r m
+left-coprime {m} s l c e = invertible-coprime m (omega arith) (invertible-left s (coprime-invertible m (omega arith) c) e)
+
+module _ {m r s : ℕ} {f : List ℕ} where
+  -- the verdict is a pair
+  pub hit : {g h : List ℕ} (v : Verdict) → pairs v ≡ true → Halved m f r s v g h → NormalPair m f r s g h
+  hit verdict.Pair t a = a .1
+  hit verdict.NoPair t a = absurd (false≢true t)
+  hit verdict.Shared t a = absurd (false≢true t)
+
+  -- and it is not, where r and m share no factor
+  pub miss : (g h : List ℕ) (v : Verdict) → pairs v ≡ false → Coprime r m → Halved m f r s v g h → NoPair m f r s
+  miss g h verdict.Pair t c a = absurd (false≢true (sym t))
+  miss g h verdict.NoPair t c a = a .1
+  miss g h verdict.Shared t c a = absurd (a c)

@@ -1,0 +1,81 @@
+-- The chain of a polynomial, as 01's operation answers and writes it.
+--
+--   pairs v, Shares n m b         what the tests of the code say
+--   FirstSplit m n f s t g h      s is the first right degree at which f splits, after t tries, and g, h the pair there
+--   NoSplit m n f t               f splits at no right degree, and t tries show it
+--   Searched m n f b s t g h      what the round over the right degrees finds
+--   ChainedIn m n f xs ys k t c   the chain of f stands in the first k places of ys, with its tries t and its price c
+--   unchained o                   the outcome o beside zeros, as after a refusal
+--   ChainOf m f xs ys x           x answers: the chain of f; xs is the area before, ys the area afterwards
+use mathlib.Core.Path.{_≡_}
+use mathlib.Core.Bool.{Bool, true, false}
+use mathlib.Core.List.{List, _++_}
+use Prim.Native.Nat.{ℕ, _*_, _/_, _≤_, _<_}
+use lib.ListN.{length, drop}
+use Rattle.algebra.specs.Number.{Coprime}
+use Rattle.algebra.specs.Polynomial.{degree, terms}
+use Rattle.algebra.specs.Pair.{NormalPair, SplitsRight}
+use Rattle.algebra.specs.Chain.{Chain, tested, price}
+use Rattle.refusal.specs.Refusal.{refusal}
+use Rattle.refusal.specs.declared.Refusal.{Refusal}
+use Rattle.refusal.specs.declared.Concerns.the-variants.{Neither}
+use Rattle.refusal.specs.declared.Reason.the-variants.{Factor, Area}
+use Rattle.refusal.specs.declared.Outcome.{Outcome}
+use Rattle.refusal.specs.declared.Outcome.the-variants.{Answered, Refused}
+use Rattle.polynomial.specs.Checks.{check-one}
+use Rattle.pair.specs.declared.Verdict.{Verdict}
+use Rattle.pair.specs.declared.Verdict.the-variants.{Pair, NoPair, Shared}
+use Rattle.area.specs.Area.{area-words, cleared, laid, written}
+use Rattle.chain.specs.declared.Chained.{Chained}
+
+-- whether a verdict is a pair
+abbrev pub pairs : Verdict → Bool
+pairs Pair = true
+pairs NoPair = false
+pairs Shared = false
+
+-- whether n and m share a factor above 1
+pub record Shares (n m : ℕ) (b : Bool) : Type 0 where
+  pub yes : b ≡ true → Coprime n m → ⊥
+  pub no : b ≡ false → Coprime n m
+
+-- the first right degree at which f splits; one try for each that was tested, this one included
+pub record FirstSplit (m n : ℕ) (f : List ℕ) (s t : ℕ) (g h : List ℕ) : Type 0 where
+  pub two-left : 2 ≤ n / s
+  pub two-right : 2 ≤ s
+  pub product : n / s * s ≡ n
+  pub first : (d : ℕ) → d < s → SplitsRight m n f d → ⊥
+  pub pair : NormalPair m f (n / s) s g h
+  pub tries : t ≡ tested n s
+
+-- all right degrees up to n/2 were tested, the last included
+pub record NoSplit (m n : ℕ) (f : List ℕ) (t : ℕ) : Type 0 where
+  pub none : (s : ℕ) → SplitsRight m n f s → ⊥
+  pub tries : t ≡ tested n (n / 2)
+
+-- a yes with the first split, a no for all right degrees
+pub record Searched (m n : ℕ) (f : List ℕ) (found : Bool) (s t : ℕ) (g h : List ℕ) : Type 0 where
+  pub yes : found ≡ true → FirstSplit m n f s t g h
+  pub no : found ≡ false → NoSplit m n f t
+
+-- the parts stand in the first places, left to right, and nothing else has changed
+pub record ChainedIn (m n : ℕ) (f xs ys : List ℕ) (count tries cost : ℕ) : Type 0 where
+  pub parts : List (List ℕ)
+  pub chain : Chain m n f parts tries
+  pub count-is : count ≡ length parts
+  pub cost-is : cost ≡ price parts
+  pub area : ys ≡ laid parts ++ drop (count * terms) xs
+
+-- zeros beside an outcome
+abbrev pub unchained : Outcome → Chained
+unchained o = record { outcome = o; parts = 0; tries = 0; price = 0 }
+
+-- 11 before everything, and nothing is written; then 1, 2, 3, 4, then 5 if n and m share a factor, and all places are zero;
+-- else the chain, with zeros in the unused places. Words past the places never change.
+pub data ChainOf (m : ℕ) (f xs ys : List ℕ) (x : Chained) : Type 0 where
+  short : length xs < area-words → ys ≡ xs → x ≡ unchained (refusal Neither Area) → ChainOf m f xs ys x
+  refused : {r : Refusal} → area-words ≤ length xs → check-one m f ≡ Refused r → ys ≡ cleared xs → x ≡ unchained (Refused r) → ChainOf m f xs ys x
+  shared : area-words ≤ length xs → check-one m f ≡ Answered → (Coprime (degree f) m → ⊥) → ys ≡ cleared xs → x ≡ unchained (refusal Neither Factor) → ChainOf m f xs ys x
+  chained : {parts : List (List ℕ)} {t : ℕ} → area-words ≤ length xs → check-one m f ≡ Answered → Coprime (degree f) m
+      → Chain m (degree f) f parts t → ys ≡ written xs parts
+      → x ≡ record { outcome = Answered; parts = length parts; tries = t; price = price parts } → ChainOf m f xs ys x
