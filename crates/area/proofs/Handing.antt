@@ -2,11 +2,13 @@
 --
 --   past, short      no such place; an area that is too short
 --   zero, full       a place of zeros; any other
+--   part-placed      a part that is not empty stands in a place
 use mathlib.Core.Path.{_≡_, sym, ap, _∙_}
 use mathlib.Core.Bool.{Bool, true, false}
 use mathlib.Core.List.{List, []}
 use Prim.Native.Nat.{ℕ, _+_, _-_, _*_, _<_, _≤_}
 use native.Mathlib.Omega.{arith}
+use native.Mathlib.Decide.{decLt}
 use borrow.Author.Tests.{lt-ltb, le-ltb, le-leb, lt-leb}
 use lib.ListN.{length, take, drop}
 use Rattle.algebra.specs.Polynomial.{terms}
@@ -33,3 +35,11 @@ module _ (xs : List ℕ) (i : ℕ) where
     pub full : b ≡ false → take (i * terms + terms - i * terms) (drop (i * terms) xs) ≡ part-of xs i
     unfolding part-of
     full t = simp (lt-ltb _ _ h, le-leb _ _ l, ← counted, ← e, t)
+
+-- a part that is not empty stands in a place
+pub part-placed : (xs : List ℕ) (i : ℕ) → ¬ (length (part-of xs i) ≡ 0) → i < most-parts
+part-placed xs i h = go (decLt i most-parts)
+  where
+    go : Dec (i < most-parts) → i < most-parts
+    go (yes l) = l
+    go (no l) = let e : most-parts ≤ i = omega arith in absurd (h (sym (ap length (past xs i e))))

@@ -20,11 +20,10 @@ use Rattle.algebra.proofs.Factors.{coprime-invertible}
 use Rattle.algebra.proofs.Changes.{changed-monic}
 use Rattle.algebra.proofs.Chains as C
 use Rattle.refusal.specs.Refusal.{refusal}
-use Rattle.refusal.specs.declared.Refusal.{Refusal}
 use Rattle.refusal.specs.declared.Concerns.the-variants.{Neither}
 use Rattle.refusal.specs.declared.Reason.the-variants.{Factor}
-use Rattle.refusal.specs.declared.Outcome.{Outcome}
-use Rattle.refusal.specs.declared.Outcome.the-variants.{Answered, Refused}
+use Rattle.refusal.specs.declared.Outcome.the-variants.{Answered}
+use Rattle.refusal.proofs.Outcomes.{never}
 use Rattle.polynomial.specs.Checks.{check-one, Accepted}
 use Rattle.polynomial.proofs.Acceptance.{accepted-one, one-accepted, accepted-as, degree-fits}
 use Rattle.area.specs.Area.{most-parts, area-words, written}
@@ -32,10 +31,6 @@ use Rattle.chain.specs.declared.Chained.{Chained}
 use Rattle.chain.specs.Chaining.{unchained, ChainOf}
 use Rattle.chain.specs.Chaining as of
 use Rattle.chain.proofs.Placing.{parts-within}
-
--- an answer is no refusal
-never : {o : Outcome} {r : Refusal} → o ≡ Refused r → o ≡ Answered → ⊥
-never {o} {r} p q = let z : _≡_ {A = ℕ} 0 1 = cc in omega arith
 
 -- an accepted modulus is 2 or more
 modulus-two : {m : ℕ} {f : List ℕ} → Accepted m f → 2 ≤ m

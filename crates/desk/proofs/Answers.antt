@@ -2,12 +2,16 @@
 --
 --   check-face-unique   two answers of desk_check for the same bytes are equal, in the result and in what is written
 --   answer-face-unique, parts-face-unique     where an operation's contract determines its answer, so does that of its face
-use mathlib.Core.Path.{_≡_, sym, ap, _∙_}
-use mathlib.Core.List.{List}
-use Prim.Native.Nat.{ℕ}
+--   place-empty, place-full                   where a part stands
+use mathlib.Core.Path.{_≡_, refl, sym, ap, _∙_}
+use mathlib.Core.List.{List, [], _∷_}
+use Prim.Native.Nat.{ℕ, zero, suc, _*_}
+use lib.ListN.{length}
+use Rattle.algebra.specs.Polynomial.{terms}
+use Rattle.area.specs.Area.{part-of}
 use Rattle.polynomial.specs.declared.Answer.{Answer}
 use Rattle.polynomial.specs.declared.Parts.{Parts}
-use Rattle.desk.specs.Face.{told, CheckedAs, AnswersAs, PartsAs}
+use Rattle.desk.specs.Face.{told, CheckedAs, AnswersAs, PartsAs, start-of, place-of}
 use Rattle.desk.specs.declared.Refused.{Refused}
 
 -- two answers of desk_check for the same bytes are equal, in the result and in what is written
@@ -29,3 +33,16 @@ pub parts-face-unique : {Of : Parts → Type 0} → ((x y : Parts) → Of x → 
 parts-face-unique one x y =
     let e = one (x .parts) (y .parts) (x .is) (y .is) in
     (x .refused ∙ ap (λ (a : Parts). told (a .outcome)) e ∙ sym (y .refused), x .g-is ∙ ap (λ (a : Parts). a .left) e ∙ sym (y .g-is), x .h-is ∙ ap (λ (a : Parts). a .right) e ∙ sym (y .h-is))
+
+-- the place of an empty part, and of any other
+pub place-empty : (xs : List ℕ) (i : ℕ) → length (part-of xs i) ≡ 0 → 0 ∷ 0 ∷ [] ≡ place-of xs i
+unfolding place-of
+place-empty xs i e = rw e
+
+pub place-full : (xs : List ℕ) (i : ℕ) → ¬ (length (part-of xs i) ≡ 0) → (i * terms) ∷ length (part-of xs i) ∷ [] ≡ place-of xs i
+unfolding place-of
+place-full xs i h = go (length (part-of xs i)) h
+  where
+    go : (n : ℕ) → ¬ (n ≡ 0) → (i * terms) ∷ n ∷ [] ≡ start-of n i ∷ n ∷ []
+    go zero h = absurd (h refl)
+    go (suc n) h = refl

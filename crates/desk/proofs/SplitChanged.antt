@@ -17,6 +17,7 @@ use Rattle.algebra.proofs.Pairs as P
 use Rattle.refusal.specs.declared.Refusal.{Refusal}
 use Rattle.refusal.specs.declared.Outcome.{Outcome}
 use Rattle.refusal.specs.declared.Outcome.the-variants.{Answered, Refused}
+use Rattle.refusal.proofs.Outcomes.{never}
 use Rattle.polynomial.specs.Checks.{check-one, check-pair, Accepted}
 use Rattle.polynomial.specs.Answers.{no-parts}
 use Rattle.polynomial.specs.Degrees.{Degrees}
@@ -92,7 +93,7 @@ module _ {m : ℕ} {c : Change} {f f′ : List ℕ} (x : Altered m c f f′) whe
   -- an answer and a refusal are not the same
   not-answered : {o : Outcome} {e : Refusal} {y : Parts} → o ≡ Refused e → y ≡ no-parts o → y .outcome ≡ Answered → ⊥
   unfolding no-parts
-  not-answered q p a = let z : _≡_ {A = ℕ} 0 1 = cc (ap (λ (w : Parts). w .outcome) p) in omega arith
+  not-answered q p a = never (ap (λ (w : Parts). w .outcome) p ∙ q) a
 
   -- the changed pair of an answer is the answer for the changed f; any other answer is the same for both
   pub split-changed : (r : ℕ) {y z : Parts} → Splits m f r y → Splits m f′ r z

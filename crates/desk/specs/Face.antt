@@ -5,15 +5,22 @@
 --   AnswersAs Of r f    what a function for an operation that answers one polynomial returns and writes
 --   MadeAs Of r out     the same for an operation that answers a change: its unit and its origin
 --   PartsAs Of r g h    the same for an operation that answers two parts
+--   ChainedAs ..        what desk_chain returns and writes
+--   place-of xs i       where part i stands in the area xs: its start and its length, 0 and 0 if it is empty
 use mathlib.Core.Path.{_≡_}
 use mathlib.Core.List.{List, [], _∷_}
-use Prim.Native.Nat.{ℕ}
+use Prim.Native.Nat.{ℕ, zero, suc, _*_}
+use lib.ListN.{length}
+use Rattle.algebra.specs.Polynomial.{terms}
 use Rattle.refusal.specs.Refusal.{number, polynomial, power}
 use Rattle.refusal.specs.declared.Outcome.{Outcome}
 use Rattle.refusal.specs.declared.Outcome.the-variants.{Answered, Refused}
 use Rattle.polynomial.specs.declared.Answer.{Answer}
 use Rattle.polynomial.specs.declared.Parts.{Parts}
 use Rattle.change.specs.declared.Made.{Made}
+use Rattle.chain.specs.declared.Chained.{Chained}
+use Rattle.chain.specs.Chaining.{ChainOf}
+use Rattle.area.specs.Area.{part-of}
 use Rattle.record.specs.Record.{checked}
 use Rattle.desk.specs.declared.Refused as face
 
@@ -50,3 +57,19 @@ pub record MadeAs (Of : Made → Type 0) (r : face.Refused) (out : List ℕ) : T
   pub is : Of made
   pub refused : r ≡ told (made .outcome)
   pub out-is : out ≡ made .change .unit ∷ made .change .origin ∷ []
+
+-- some chain, in numbers: parts, tries, price; and the area afterwards
+pub record ChainedAs (m : ℕ) (f xs ys : List ℕ) (r : face.Refused) (numbers : List ℕ) : Type 0 where
+  pub chained : Chained
+  pub is : ChainOf m f xs ys chained
+  pub refused : r ≡ told (chained .outcome)
+  pub numbers-are : numbers ≡ chained .parts ∷ chained .tries ∷ chained .price ∷ []
+
+-- an empty part stands nowhere
+abbrev pub start-of : ℕ → ℕ → ℕ
+start-of zero i = 0
+start-of (suc n) i = i * terms
+
+-- start and length of part i
+unfoldable pub place-of : List ℕ → ℕ → List ℕ
+place-of xs i = start-of (length (part-of xs i)) i ∷ length (part-of xs i) ∷ []

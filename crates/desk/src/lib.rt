@@ -2,7 +2,7 @@
 ghost use mathlib.Core.Path.{_≡_};
 ghost use Rattle.pair.specs.Pairing.{compose, LeftPartOf, Splits};
 ghost use Rattle.change.specs.Changing.{ChangesPolynomial, ChangesPair, Combines, Undoing};
-ghost use Rattle.desk.specs.Face.{told as told-of, CheckedAs, AnswersAs, PartsAs, MadeAs};
+ghost use Rattle.desk.specs.Face.{told as told-of, CheckedAs, AnswersAs, PartsAs, MadeAs, ChainedAs, place-of};
 use change::Change;
 use polynomial::TERMS;
 use refusal::Outcome;
@@ -185,4 +185,34 @@ pub extern "C" fn desk_undo(m: u32, a: u32, b: u32, out: &mut [u32; 2]) -> Refus
     *out = [c.unit, c.origin];
     let outcome = x.outcome;
     told(outcome)
+}
+
+// The chain of f into an area: numbers are its parts, tries and price.
+#[no_mangle]
+pub extern "C" fn desk_chain(
+    m: u32,
+    f: &[u32; TERMS],
+    area: &mut [u32],
+    numbers: &mut [usize; 3],
+) -> Refused
+    ensures { λ r. ⌜ ChainedAs m (now (f .entry)) (now (area .entry)) (now (area .exit)) r (now (numbers .exit)) ⌝ }
+{
+    let x = chain::chain(m, *f, area);
+    *numbers = [x.parts, x.tries, x.price];
+    let outcome = x.outcome;
+    told(outcome)
+}
+
+// Part i of an area: where it starts and how long it is; 0 and 0 if it is empty.
+#[no_mangle]
+pub extern "C" fn desk_part(area: &[u32], i: usize, place: &mut [usize; 2])
+    ensures { λ _. ⌜ now (place .exit) ≡ place-of (now (area .entry)) i ⌝ }
+{
+    let p = area::part(area, i);
+    let n = p.len();
+    if n == 0 {
+        *place = [0, 0];
+        return;
+    }
+    *place = [i * TERMS, n];
 }

@@ -27,7 +27,7 @@ use Rattle.refusal.specs.declared.Concerns.the-variants.{Neither}
 use Rattle.refusal.specs.declared.Reason.the-variants.{NoPair}
 use Rattle.refusal.specs.declared.Outcome.{Outcome}
 use Rattle.refusal.specs.declared.Outcome.the-variants.{Answered, Refused}
-use Rattle.refusal.proofs.Outcomes.{then-both, refuse-answered}
+use Rattle.refusal.proofs.Outcomes.{never, then-both, refuse-answered}
 use Rattle.polynomial.specs.Checks.{check-one, check-two, Accepted}
 use Rattle.polynomial.specs.Answers.{nothing, no-parts}
 use Rattle.polynomial.specs.Degrees.{Degrees}
@@ -43,10 +43,6 @@ use borrow.Author.Tests.{not-false}
 
 pub compose-determined : (m : ℕ) (g h : List ℕ) {x y : Answer} → x ≡ compose m g h → y ≡ compose m g h → x ≡ y
 compose-determined m g h p q = p ∙ sym q
-
--- an answer is no refusal
-never : {o : Outcome} {r : Refusal} → o ≡ Refused r → o ≡ Answered → ⊥
-never {o} {r} p q = let z : _≡_ {A = ℕ} 0 1 = cc in omega arith
 
 no-pair-answered : {x : Answer} → x ≡ nothing (refusal Neither NoPair) → x .outcome ≡ Answered → ⊥
 unfolding nothing

