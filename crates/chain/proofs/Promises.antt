@@ -11,13 +11,11 @@ use Prim.Native.Nat.{ℕ, suc, _≤_, _<_}
 use native.Mathlib.Omega.{arith}
 use lib.ListN.{length}
 use Rattle.algebra.specs.Number.{Coprime}
-use Rattle.algebra.specs.Polynomial.{degree, terms, limit, Same, Monic, Reduced}
+use Rattle.algebra.specs.Polynomial.{degree, terms, limit, Same, Reduced}
 use Rattle.algebra.specs.Pair.{Normal, Unsplit}
 use Rattle.algebra.specs.Change.{Changed}
 use Rattle.algebra.specs.Chain.{Chain, whole, step, composed, part, Part, degrees, product, price, Carried}
-use Rattle.algebra.proofs.Reduction.{degree-monic}
 use Rattle.algebra.proofs.Factors.{coprime-invertible}
-use Rattle.algebra.proofs.Changes.{changed-monic}
 use Rattle.algebra.proofs.Chains as C
 use Rattle.refusal.specs.Refusal.{refusal}
 use Rattle.refusal.specs.declared.Concerns.the-variants.{Neither}
@@ -25,7 +23,7 @@ use Rattle.refusal.specs.declared.Reason.the-variants.{Factor}
 use Rattle.refusal.specs.declared.Outcome.the-variants.{Answered}
 use Rattle.refusal.proofs.Outcomes.{never}
 use Rattle.polynomial.specs.Checks.{check-one, Accepted}
-use Rattle.polynomial.proofs.Acceptance.{accepted-one, one-accepted, accepted-as, degree-fits}
+use Rattle.polynomial.proofs.Acceptance.{accepted-one, one-accepted, accepted-as, accepted-changed, degree-fits}
 use Rattle.area.specs.Area.{most-parts, area-words, written}
 use Rattle.chain.specs.declared.Chained.{Chained}
 use Rattle.chain.specs.Chaining.{unchained, ChainOf}
@@ -131,20 +129,6 @@ unfolding degrees
 degrees-length [] = refl
 degrees-length (p ∷ parts) = ap suc (degrees-length parts)
 
--- a reduced f′ that is f changed has the degree of f and is accepted as f is
-module _ {m a b : ℕ} {f f′ : List ℕ} (accepted : Accepted m f) (reduced : Reduced m f′) (unit : Coprime a m) (changed : Changed m (degree f) a b f f′) where
-  two : 2 ≤ m
-  two = modulus-two accepted
-
-  monic : Monic m (degree f) f′
-  monic = let l = two in changed-monic (omega arith) (omega (arith, accepted .two)) (coprime-invertible m (omega arith) unit) (accepted .monic) changed
-
-  changed-degree : degree f′ ≡ degree f
-  changed-degree = degree-monic two reduced monic
-
-  changed-accepted : Accepted m f′
-  changed-accepted = record { low = accepted .low; high = accepted .high; reduced = reduced; monic = rw changed-degree monic; two = rw changed-degree (accepted .two) }
-
 module _ {m a b : ℕ} {f f′ xs ys xs′ ys′ : List ℕ} {x x′ : Chained} (long : length f ≡ terms) (unit : Coprime a m) (changed : Changed m (degree f) a b f f′)
     (k : ChainOf m f xs ys x) (k′ : ChainOf m f′ xs′ ys′ x′) where
   -- demand 3, where both are answered
@@ -156,7 +140,7 @@ module _ {m a b : ℕ} {f f′ xs ys xs′ ys′ : List ℕ} {x x′ : Chained} 
       let (parts′, c′) = chain-complete long′ k′ z′ in
       let two = modulus-two (c .accepted) in
       let low : degree f ≤ limit = degree-fits (c .accepted) in
-      let e = changed-degree (c .accepted) (c′ .accepted .reduced) unit changed in
+      let e = accepted-changed (c .accepted) (c′ .accepted .reduced) unit changed .1 in
       let (car, t, d, p) = C.chains-changed (omega arith) two (c .accepted .two) (omega arith) (coprime-invertible m (omega arith) (c .coprime)) (coprime-invertible m (omega arith) unit) changed
       (c .chain) (c′ .accepted .reduced) (subst (λ (n : ℕ). Chain m n f′ parts′ (x′ .tries)) e (c′ .chain)) in (
         parts,
@@ -181,7 +165,7 @@ module _ {m a b : ℕ} {f f′ xs ys xs′ ys′ : List ℕ} {x x′ : Chained} 
         accepted = accepted-one long e
 
         exact : (Coprime (degree f) m → x′ .outcome ≡ Answered) × ((Coprime (degree f) m → ⊥) → x′ .outcome ≡ refusal Neither Factor)
-        exact = rw (changed-degree accepted reduced unit changed) at (chain-exact room′ (one-accepted (changed-accepted accepted reduced unit changed)) k′)
+        exact = rw (accepted-changed accepted reduced unit changed .1) at (chain-exact room′ (one-accepted (accepted-changed accepted reduced unit changed .0)) k′)
 
         go : ChainOf m f xs ys x → x′ .outcome ≡ x .outcome
         go (of.short l a p) = absurd (omega arith)

@@ -7,12 +7,11 @@ use mathlib.Core.List.{List}
 use Prim.Native.Nat.{ℕ, _/_, _<_}
 use native.Mathlib.Omega.{arith}
 use lib.ListN.{length}
-use Rattle.algebra.specs.Polynomial.{degree, terms, Monic, Reduced}
+use Rattle.algebra.specs.Polynomial.{degree, terms, Reduced}
 use Rattle.algebra.specs.Pair.{NormalPair, NoPair}
 use Rattle.algebra.specs.Change.{Changed, ChangedPair}
 use Rattle.algebra.proofs.Reduction.{degree-monic}
 use Rattle.algebra.proofs.Factors.{coprime-invertible}
-use Rattle.algebra.proofs.Changes.{changed-monic}
 use Rattle.algebra.proofs.Pairs as P
 use Rattle.refusal.specs.declared.Refusal.{Refusal}
 use Rattle.refusal.specs.declared.Outcome.{Outcome}
@@ -22,7 +21,7 @@ use Rattle.polynomial.specs.Checks.{check-one, check-pair, Accepted}
 use Rattle.polynomial.specs.Answers.{no-parts}
 use Rattle.polynomial.specs.Degrees.{Degrees}
 use Rattle.polynomial.specs.declared.Parts.{Parts}
-use Rattle.polynomial.proofs.Acceptance.{accepted-one, one-accepted, accepted-as, pair-accepted}
+use Rattle.polynomial.proofs.Acceptance.{accepted-one, one-accepted, accepted-as, pair-accepted, accepted-changed}
 use Rattle.pair.specs.Pairing.{check-split, Splits}
 use Rattle.pair.specs.Pairing as pairing
 use Rattle.pair.proofs.Forcing.{fits-below}
@@ -50,14 +49,14 @@ module _ {m : ℕ} {c : Change} {f f′ : List ℕ} (x : Altered m c f f′) whe
   pos : 0 < m
   pos = let o = one in omega arith
 
-  changed-is-monic : Monic m (degree f) f′
-  changed-is-monic = let (rf, mf, two, l, o, w) = accepted-as refl taken in changed-monic pos (omega arith) (coprime-invertible m pos (x .proper .invertible)) mf (x .changed)
+  both : Accepted m f′ × (degree f′ ≡ degree f)
+  both = accepted-changed taken (x .reduced) (x .proper .invertible) (x .changed)
 
-  pub same-degree : degree f′ ≡ degree f
-  same-degree = let o = one in degree-monic (omega arith) (x .reduced) changed-is-monic
+  same-degree : degree f′ ≡ degree f
+  same-degree = both .1
 
-  pub changed-accepted : check-one m f′ ≡ Answered
-  changed-accepted = one-accepted (record { low = taken .low; high = taken .high; reduced = x .reduced; monic = rw same-degree changed-is-monic; two = rw same-degree (taken .two) })
+  changed-accepted : check-one m f′ ≡ Answered
+  changed-accepted = one-accepted (both .0)
 
   -- the checks of a split look at the degree only
   same-checks : (r : ℕ) → check-split m f′ r ≡ check-split m f r

@@ -7,6 +7,7 @@
 --   degrees-multiply, above-limit, within-limit     the composed degree, and No. 10
 --   accepted-pair, pair-accepted     the checks of a pair that is composed
 --   accepted-as                 what a leaf asks of an accepted polynomial
+--   accepted-changed            a changed polynomial is accepted as it was, and has its degree
 --   degree-fits                 an accepted polynomial is within the desk's limit
 use mathlib.Core.Path.{_≡_, refl, sym, _∙_}
 use mathlib.Core.Bool.{Bool, true, false, _||_}
@@ -17,6 +18,11 @@ use native.Mathlib.Omega.{arith}
 use lib.Dec.{ltb}
 use lib.ListN.{length}
 use borrow.Author.Tests.{ltb-false, eqb-true, not-false, lt-ltb, le-ltb, eq-eqb}
+use Rattle.algebra.specs.Number.{Coprime}
+use Rattle.algebra.specs.Change.{Changed}
+use Rattle.algebra.proofs.Reduction.{degree-monic}
+use Rattle.algebra.proofs.Factors.{coprime-invertible}
+use Rattle.algebra.proofs.Changes.{changed-monic}
 use Rattle.algebra.specs.Polynomial.{coef, limit, terms, degree, Monic, Reduced}
 use Rattle.refusal.specs.Refusal.{_then_, is-refused, refusal, refuse}
 use Rattle.refusal.specs.declared.Concerns.{Concerns}
@@ -137,3 +143,16 @@ pair-accepted {m} {g} {h} a b l = rw (two-accepted a b) (sym (within-limit g h r
 pub accepted-as : {m n : ℕ} {f : List ℕ} → n ≡ degree f → Accepted m f → Reduced m f × Monic m n f × (2 ≤ n) × (n ≤ limit) × (1 < m) × (m ≤ 2 ^ 32)
 unfolding smallest largest
 accepted-as {m} {n} {f} e a = (a .reduced, rw e (a .monic), rw e (a .two), rw e (degree-fits a), omega (arith, a .low), omega (arith, a .high))
+
+-- f changed, and reduced, is accepted as f is, and has its degree
+pub accepted-changed : {m a b : ℕ} {f f′ : List ℕ} → Accepted m f → Reduced m f′ → Coprime a m → Changed m (degree f) a b f f′ → Accepted m f′ × (degree f′ ≡ degree f)
+accepted-changed {m} {a} {b} {f} {f′} acc red unit changed = (record { low = acc .low; high = acc .high; reduced = red; monic = rw same monic; two = rw same (acc .two) }, same)
+  where
+    above : 1 < m
+    above = let (rf, mf, two, l, o, w) = accepted-as refl acc in o
+
+    monic : Monic m (degree f) f′
+    monic = let o = above in changed-monic (omega arith) (omega (arith, acc .two)) (coprime-invertible m (omega arith) unit) (acc .monic) changed
+
+    same : degree f′ ≡ degree f
+    same = let o = above in degree-monic (omega arith) red monic
