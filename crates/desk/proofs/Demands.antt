@@ -1,0 +1,107 @@
+-- The three demands of document 00, over the contracts of the operations, in its words and order.
+--
+-- Demand 1: every request gets an answer, and each refusal returns and writes what the table says. That the work ends is what the
+-- check shows of every function; that the contracts determine the answer and each word of lent memory is said here.
+--   record-answer, compose-answer, left-part-answer, split-answer, change-polynomial-answer, change-pair-answer,
+--   combine-answer, undo-answer, chain-answer, part-answer
+-- Demand 2: the answers are those of Kozen and Landau.
+--   split-exact         a pair exactly if some monic g and h of those degrees compose to f, else "no pair"; it is the pair with h(0) = 0
+--   left-part-exact     the same of the left part for a given h
+--   chain-composes      a chain composes back to f, and none of its parts splits further
+--   round-trip          composing a monic pair with h(0) = 0 and splitting it gives that pair back
+-- Demand 3: changing and then asking gives the same as asking first and carrying the change through the parts.
+--   chain-carried       same parts but for the change, same degrees, same number of tries
+--   split-carried       the same for a single split, its "no pair" and every other refusal included
+use mathlib.Core.Path.{_≡_, sym, _∙_}
+use mathlib.Core.Logic.{_↔_}
+use mathlib.Core.List.{List}
+use Prim.Native.Nat.{ℕ, _*_, _/_, _≤_}
+use lib.ListN.{length}
+use Rattle.algebra.specs.Number.{Coprime}
+use Rattle.algebra.specs.Polynomial.{degree, terms, limit}
+use Rattle.algebra.specs.Pair.{Pair, Normal}
+use Rattle.algebra.specs.Change.{Changed}
+use Rattle.refusal.specs.declared.Outcome.the-variants.{Answered}
+use Rattle.polynomial.specs.Checks.{check-one, Accepted}
+use Rattle.polynomial.specs.declared.Answer.{Answer}
+use Rattle.polynomial.specs.declared.Parts.{Parts}
+use Rattle.record.specs.Record.{checked}
+use Rattle.record.specs.declared.Checked.{Checked}
+use Rattle.record.proofs.Answers as record-law
+use Rattle.left.specs.Left.{LeftPart}
+use Rattle.pair.specs.Pairing.{compose, check-left, LeftPartOf, check-split, Splits}
+use Rattle.pair.proofs.Determined as pair-law
+use Rattle.change.specs.declared.Change.{Change}
+use Rattle.change.specs.declared.Made.{Made}
+use Rattle.change.specs.Changing.{ChangesPolynomial, ChangesPair, Combines, Undoing}
+use Rattle.change.proofs.Determined as change-law
+use Rattle.area.specs.Area.{part-of, area-words}
+use Rattle.chain.specs.declared.Chained.{Chained}
+use Rattle.chain.specs.Chaining.{ChainOf}
+use Rattle.chain.proofs.Promises as chain-law
+use Rattle.chain.proofs.Promises.{Complete, Carries}
+use Rattle.desk.proofs.SplitChanged as split-law
+use Rattle.desk.proofs.SplitChanged.{Altered}
+
+-- Demand 1: two answers to one request are equal, refused ones too
+
+pub record-answer : (b : List ℕ) {x y : Checked} → x ≡ checked b → y ≡ checked b → x ≡ y
+record-answer = record-law.check-unique
+
+pub compose-answer : (m : ℕ) (g h : List ℕ) {x y : Answer} → x ≡ compose m g h → y ≡ compose m g h → x ≡ y
+compose-answer = pair-law.compose-determined
+
+pub left-part-answer : {m : ℕ} {f h : List ℕ} → length f ≡ terms → length h ≡ terms → {x y : Answer} → LeftPartOf m f h x → LeftPartOf m f h y → x ≡ y
+left-part-answer = pair-law.left-part-determined
+
+pub split-answer : {m r : ℕ} {f : List ℕ} → length f ≡ terms → {x y : Parts} → Splits m f r x → Splits m f r y → x ≡ y
+split-answer = pair-law.split-determined
+
+pub change-polynomial-answer : {m : ℕ} {f : List ℕ} {c : Change} {x y : Answer} → ChangesPolynomial m f c x → ChangesPolynomial m f c y → x ≡ y
+change-polynomial-answer = change-law.change-polynomial-determined
+
+pub change-pair-answer : {m : ℕ} {g h : List ℕ} {c : Change} {x y : Parts} → ChangesPair m g h c x → ChangesPair m g h c y → x ≡ y
+change-pair-answer = change-law.change-pair-determined
+
+pub combine-answer : {m : ℕ} {c d : Change} {x y : Made} → Combines m c d x → Combines m c d y → x ≡ y
+combine-answer = change-law.combine-determined
+
+pub undo-answer : {m : ℕ} {c : Change} {x y : Made} → Undoing m c x → Undoing m c y → x ≡ y
+undo-answer = change-law.undo-determined
+
+-- with every word of the area
+pub chain-answer : {m : ℕ} {f xs ys zs : List ℕ} {x y : Chained} → length f ≡ terms → ChainOf m f xs ys x → ChainOf m f xs zs y → (x ≡ y) × (ys ≡ zs)
+chain-answer = chain-law.chain-determined
+
+pub part-answer : (xs : List ℕ) (i : ℕ) {p q : List ℕ} → p ≡ part-of xs i → q ≡ part-of xs i → p ≡ q
+part-answer xs i e f = e ∙ sym f
+
+-- Demand 2
+
+pub split-exact : {m r : ℕ} {f : List ℕ} → length f ≡ terms → {x : Parts} → Splits m f r x → check-split m f r ≡ Answered → Coprime r m
+    → (x .outcome ≡ Answered) ↔ ((g h : List ℕ) × Pair m f r (degree f / r) g h)
+split-exact = pair-law.split-exact
+
+pub left-part-exact : {m : ℕ} {f h : List ℕ} → length f ≡ terms → length h ≡ terms → {x : Answer} → LeftPartOf m f h x → check-left m f h ≡ Answered
+    → (x .outcome ≡ Answered) ↔ ((g : List ℕ) × LeftPart m f (degree f / degree h) h g)
+left-part-exact = pair-law.left-exact
+
+pub chain-composes : {m : ℕ} {f xs ys : List ℕ} {x : Chained} → length f ≡ terms → ChainOf m f xs ys x → x .outcome ≡ Answered
+    → (parts : List (List ℕ)) × Complete m f xs ys x parts
+chain-composes = chain-law.chain-complete
+
+pub round-trip : {m : ℕ} {g h : List ℕ} → Accepted m g → Accepted m h → degree g * degree h ≤ limit → Normal m h → Coprime (degree g) m
+    → {y : Parts} → Splits m (compose m g h .polynomial) (degree g) y → y ≡ record { outcome = Answered; left = g; right = h }
+round-trip = pair-law.round-trip
+
+-- Demand 3
+
+pub split-carried : {m : ℕ} {c : Change} {f f′ : List ℕ} → Altered m c f f′ → (r : ℕ) {y z : Parts} → Splits m f r y → Splits m f′ r z
+    → (y .outcome ≡ Answered → (w : Parts) → ChangesPair m (y .left) (y .right) c w → z ≡ w) × ((y .outcome ≡ Answered → ⊥) → z ≡ y)
+split-carried = split-law.split-changed
+
+-- for any f that the chain accepts: the chain of the changed f has the parts with the change carried from the right
+pub chain-carried : {m a b : ℕ} {f f′ xs ys xs′ ys′ : List ℕ} {x x′ : Chained} → length f ≡ terms → Coprime a m → Changed m (degree f) a b f f′
+    → ChainOf m f xs ys x → ChainOf m f′ xs′ ys′ x′ → length f′ ≡ terms → x .outcome ≡ Answered → x′ .outcome ≡ Answered
+    → (parts parts′ : List (List ℕ)) × Complete m f xs ys x parts × Complete m f′ xs′ ys′ x′ parts′ × Carries m a b x x′ parts parts′
+chain-carried = chain-law.chain-changed
