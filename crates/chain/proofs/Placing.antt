@@ -1,11 +1,12 @@
 -- Parts in the places of an area.
 --
---   tries-within, price-within     tries and price are at most n, so that they fit a word
---   parts-within                   so many parts have a place
---   chain-full                     every part fills its place
---   split-part, split-chain        the left part of a first split, and the chain made of it
---   chained-whole                  f in the first place: the chain of an f with no split
---   chained-more                   the right part of the first split in the next place after those of the left part
+--   chain-full         every part of a chain fills its place
+--   parts-within       a chain has no more parts than there are places
+--   chained-within     its tries and its price are at most n, so that they fit a word
+--   chained-whole      f, which does not split, in the first place: its chain
+--   left-less          the left part of the first split has a smaller degree
+--   next-place         there is a place after the chain of the left part
+--   chained-more       the right part in that place: the chain of f
 use mathlib.Core.Path.{_≡_, refl, sym, ap, _∙_}
 use mathlib.Core.List.{List, [], _∷_, _++_}
 use Prim.Native.Nat.{ℕ, suc, _+_, _*_, _/_, _≤_, _<_}
@@ -28,6 +29,7 @@ sum-within : {r s n : ℕ} → 2 ≤ r → 2 ≤ s → r * s ≡ n → r + s ≤
 sum-within {r} {s} a b e = omega (arith, e, N.mul-le-mul-left r b, N.mul-le-mul-right s a)
 
 module _ {m : ℕ} where
+  -- each round has at most s tries, and the degrees s, with that of the leftmost part, add up to at most n
   tries-within : {n t : ℕ} {f : List ℕ} {parts : List (List ℕ)} → Chain m n f parts t → t ≤ n
   tries-within (whole {n = n} a b none) = omega (arith, tested-few n (n / 2))
   tries-within (step {n = n} {s = s} a b e first p k) = omega (arith, tested-few n s, tries-within k, sum-within a b e)
@@ -37,6 +39,7 @@ module _ {m : ℕ} where
   price-within two (whole a b none) = omega (arith, degree-monic two b a)
   price-within two (step a b e first p k) = omega (arith, degree-monic two (p .reduced-right) (p .pair .right), price-within two k, sum-within a b e)
 
+  -- reduced parts have `terms` coefficients
   pub chain-full : {n t : ℕ} {f : List ℕ} {parts : List (List ℕ)} → Chain m n f parts t → Full parts
   chain-full (whole {f = f} a b none) = laid-more f (b .long) laid-none
   chain-full (step {h = h} a b e first p k) = laid-more h (p .reduced-right .long) (chain-full k)
@@ -66,15 +69,16 @@ module _ {m : ℕ} where
     pub left-less : n / s < n
     left-less = omega (arith, z .two-right, sum-within (z .two-left) (z .two-right) (z .product))
 
+    -- the chain of the left part, and the right part
     split-chain : {u : ℕ} {parts : List (List ℕ)} → Chain m (n / s) g parts u → Chain m n f (h ∷ parts) (t + u)
     split-chain {u} {parts} k = rw (z .tries) (step {parts = parts} (z .two-left) (z .two-right) (z .product) (z .first) (z .pair) k)
 
     module _ {xs ys : List ℕ} {k u c : ℕ} (q : ChainedIn m (n / s) g xs ys k u c) where
-      -- there is a next place
+      -- the chain of f has no more parts than there are places, so the left part's has fewer
       pub next-place : 2 ≤ n → n ≤ limit → k < most-parts
       next-place two l = omega (arith, q .count-is, parts-within two l (split-chain (q .chain)))
 
-      -- and the right part goes there
+      -- the right part goes there
       pub chained-more : 2 ≤ m → ChainedIn m n f xs (put-at ys k h) (k + 1) (t + u) (c + s)
       unfolding price cost
       chained-more two = record {

@@ -1,11 +1,14 @@
 -- The promises of the chain.
 --
 --   chain-determined               two answers to one call are equal, and so are the areas afterwards
---   chain-exact                    past 11 and 1 to 4: an answer exactly if n and m share no factor; else No. 5
+--   chain-exact                    past 11 and 1 to 4: an answer exactly if n and m share no factor, and No. 5 exactly if they do
 --   Complete, chain-complete       demand 2: what the parts of an answer are, and that they stand in the area
---   Carries, chain-changed         demand 3: the parts of the changed f are those of f with the change carried from the right
+--   Carries, chain-changed         demand 3: where both are answered, the parts of the changed f are those of f with the change carried
+--                                  from the right, and degrees, tries and price agree
 --   outcome-changed                demand 3: the changed f is answered exactly if f is, and refused by 5 exactly if f is
+--   chain-carried                  demand 3: both together, for any f that the chain accepts
 use mathlib.Core.Path.{_≡_, refl, sym, ap, ap₂, subst, _∙_}
+use mathlib.Core.Logic.{_↔_}
 use mathlib.Core.List.{List, [], _∷_}
 use Prim.Native.Nat.{ℕ, suc, _≤_, _<_}
 use native.Mathlib.Omega.{arith}
@@ -58,13 +61,13 @@ module _ {m : ℕ} {f xs ys zs : List ℕ} {x y : Chained} (long : length f ≡ 
       same : (parts ≡ parts′) × (t ≡ t′)
       same = let two = modulus-two (accepted-one long d) in C.chain-unique (omega arith) (coprime-invertible m (omega arith) c) v w
 
--- past the refusals of the area and of f, whether n and m share a factor decides
+-- past the refusals of the area and of f, a common factor of n and m decides
 module _ {m : ℕ} {f xs ys : List ℕ} {x : Chained} (room : area-words ≤ length xs) (checked : check-one m f ≡ Answered) where
-  pub chain-exact : ChainOf m f xs ys x → (Coprime (degree f) m → x .outcome ≡ Answered) × ((Coprime (degree f) m → ⊥) → x .outcome ≡ refusal Neither Factor)
+  pub chain-exact : ChainOf m f xs ys x → ((x .outcome ≡ Answered) ↔ Coprime (degree f) m) × ((x .outcome ≡ refusal Neither Factor) ↔ (Coprime (degree f) m → ⊥))
   chain-exact (of.short l a p) = absurd (omega arith)
   chain-exact (of.refused l e a p) = absurd (never e checked)
-  chain-exact (of.shared l e n a p) = (λ c. absurd (n c), λ d. ap (λ (x : Chained). x .outcome) p)
-  chain-exact (of.chained l e c k a p) = (λ d. ap (λ (x : Chained). x .outcome) p, λ d. absurd (d c))
+  chain-exact (of.shared l e n a p) = let o = ap (λ (x : Chained). x .outcome) p in ((λ z. absurd (never o z), λ c. absurd (n c)), (λ z. n, λ z. o))
+  chain-exact (of.chained l e c k a p) = let o = ap (λ (x : Chained). x .outcome) p in ((λ z. c, λ z. o), (λ z. absurd (never z o), λ z. absurd (z c)))
 
 -- the parts of f, listed from the right: 01's chain with its tries; they compose to f, none splits further, all but the leftmost
 -- have constant term 0, there are 1 to `most-parts` of them, and they stand in the area, with zeros in the unused places
@@ -84,6 +87,7 @@ pub record Complete (m : ℕ) (f xs ys : List ℕ) (x : Chained) (parts : List (
   pub cost : x .price ≡ price parts
   pub area : ys ≡ written xs parts
 
+-- a chain has a part
 chain-some : {m n t : ℕ} {f : List ℕ} {parts : List (List ℕ)} → Chain m n f parts t → 1 ≤ length parts
 chain-some (whole a b none) = omega arith
 chain-some (step a b e first p k) = omega arith
@@ -124,6 +128,7 @@ pub record Carries (m a b : ℕ) (x x′ : Chained) (parts parts′ : List (List
   pub same-tries : x′ .tries ≡ x .tries
   pub same-price : x′ .price ≡ x .price
 
+-- a degree for each part
 degrees-length : (parts : List (List ℕ)) → length (degrees parts) ≡ length parts
 unfolding degrees
 degrees-length [] = refl
@@ -131,7 +136,7 @@ degrees-length (p ∷ parts) = ap suc (degrees-length parts)
 
 module _ {m a b : ℕ} {f f′ xs ys xs′ ys′ : List ℕ} {x x′ : Chained} (long : length f ≡ terms) (unit : Coprime a m) (changed : Changed m (degree f) a b f f′)
     (k : ChainOf m f xs ys x) (k′ : ChainOf m f′ xs′ ys′ x′) where
-  -- demand 3, where both are answered
+  -- demand 3 where both are answered: the two chains, and the change carried from one to the other
   pub chain-changed : length f′ ≡ terms → x .outcome ≡ Answered → x′ .outcome ≡ Answered
       → (parts parts′ : List (List ℕ)) × Complete m f xs ys x parts × Complete m f′ xs′ ys′ x′ parts′ × Carries m a b x x′ parts parts′
   unfolding terms
@@ -157,22 +162,22 @@ module _ {m a b : ℕ} {f f′ xs ys xs′ ys′ : List ℕ} {x x′ : Chained} 
       )
 
   module _ (reduced : Reduced m f′) (room′ : area-words ≤ length xs′) where
-    -- demand 3: the changed f is answered where f is, and refused by 5 where f is
+    -- demand 3: the outcomes agree, Answered or No. 5, since the degrees do
     pub outcome-changed : area-words ≤ length xs → check-one m f ≡ Answered → x′ .outcome ≡ x .outcome
     outcome-changed room e = go k
       where
         accepted : Accepted m f
         accepted = accepted-one long e
 
-        exact : (Coprime (degree f) m → x′ .outcome ≡ Answered) × ((Coprime (degree f) m → ⊥) → x′ .outcome ≡ refusal Neither Factor)
+        exact : ((x′ .outcome ≡ Answered) ↔ Coprime (degree f) m) × ((x′ .outcome ≡ refusal Neither Factor) ↔ (Coprime (degree f) m → ⊥))
         exact = rw (accepted-changed accepted reduced unit changed .1) at (chain-exact room′ (one-accepted (accepted-changed accepted reduced unit changed .0)) k′)
 
         go : ChainOf m f xs ys x → x′ .outcome ≡ x .outcome
         go (of.short l a p) = absurd (omega arith)
         go (of.refused l d a p) = absurd (never d e)
-        go (of.shared l d n a p) = exact .1 n ∙ sym (ap (λ (x : Chained). x .outcome) p)
-        go (of.chained l d c w a p) = exact .0 c ∙ sym (ap (λ (x : Chained). x .outcome) p)
+        go (of.shared l d n a p) = exact .1 .1 n ∙ sym (ap (λ (x : Chained). x .outcome) p)
+        go (of.chained l d c w a p) = exact .0 .1 c ∙ sym (ap (λ (x : Chained). x .outcome) p)
 
-    -- demand 3: where f is answered, the parts of the changed f are those of f with the change carried
+    -- demand 3: an f that the chain accepts, changed, is answered with the carried parts
     pub chain-carried : x .outcome ≡ Answered → (parts parts′ : List (List ℕ)) × Complete m f xs ys x parts × Complete m f′ xs′ ys′ x′ parts′ × Carries m a b x x′ parts parts′
     chain-carried z = let (parts, c) = chain-complete long k z in chain-changed (reduced .long) z (outcome-changed (c .room) (one-accepted (c .accepted)) ∙ z)

@@ -26,7 +26,7 @@ use Rattle.polynomial.specs.Degrees.{Degrees}
 use Rattle.pair.specs.Pairing.{Halved}
 use Rattle.pair.specs.declared.Verdict.{Verdict}
 use Rattle.pair.specs.declared.Verdict.the-variants as verdict
-use Rattle.chain.specs.Chaining.{pairs, FirstSplit, Searched}
+use Rattle.chain.specs.Chaining.{pairs, Searched}
 
 divides-yes : (d n : ℕ) → n % d ≡ 0 → divides d n ≡ 1
 unfolding divides

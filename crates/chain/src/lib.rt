@@ -106,10 +106,13 @@ fn parts(f: Coefficients, n: usize, area: &mut [u32], table: &[u64; ENTRIES], m:
     let right = a.right;
     let c = parts(left, n / s, area, table, m);
     area::put(area, c.parts, &right);
+    let count = c.parts + 1;
+    let tries = a.tries + c.tries;
+    let price = c.price + s;
     Counted {
-        parts: c.parts + 1,
-        tries: a.tries + c.tries,
-        price: c.price + s,
+        parts: count,
+        tries,
+        price,
     }
 }
 

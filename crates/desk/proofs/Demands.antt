@@ -10,7 +10,7 @@
 --   chain-composes      a chain composes back to f, and none of its parts splits further
 --   round-trip          composing a monic pair with h(0) = 0 and splitting it gives that pair back
 -- Demand 3: changing and then asking gives the same as asking first and carrying the change through the parts.
---   chain-carried       same parts but for the change, same degrees, same number of tries
+--   chain-carried, chain-outcome-carried     same parts but for the change, same degrees, same number of tries, same refusal
 --   split-carried       the same for a single split, its "no pair" and every other refusal included
 use mathlib.Core.Path.{_≡_, sym, _∙_}
 use mathlib.Core.Logic.{_↔_}
@@ -18,7 +18,7 @@ use mathlib.Core.List.{List}
 use Prim.Native.Nat.{ℕ, _*_, _/_, _≤_}
 use lib.ListN.{length}
 use Rattle.algebra.specs.Number.{Coprime}
-use Rattle.algebra.specs.Polynomial.{degree, terms, limit}
+use Rattle.algebra.specs.Polynomial.{degree, terms, limit, Reduced}
 use Rattle.algebra.specs.Pair.{Pair, Normal}
 use Rattle.algebra.specs.Change.{Changed}
 use Rattle.refusal.specs.declared.Outcome.the-variants.{Answered}
@@ -102,6 +102,11 @@ split-carried = split-law.split-changed
 
 -- for any f that the chain accepts: the chain of the changed f has the parts with the change carried from the right
 pub chain-carried : {m a b : ℕ} {f f′ xs ys xs′ ys′ : List ℕ} {x x′ : Chained} → length f ≡ terms → Coprime a m → Changed m (degree f) a b f f′
-    → ChainOf m f xs ys x → ChainOf m f′ xs′ ys′ x′ → length f′ ≡ terms → x .outcome ≡ Answered → x′ .outcome ≡ Answered
+    → ChainOf m f xs ys x → ChainOf m f′ xs′ ys′ x′ → Reduced m f′ → area-words ≤ length xs′ → x .outcome ≡ Answered
     → (parts parts′ : List (List ℕ)) × Complete m f xs ys x parts × Complete m f′ xs′ ys′ x′ parts′ × Carries m a b x x′ parts parts′
-chain-carried = chain-law.chain-changed
+chain-carried = chain-law.chain-carried
+
+-- and whether the chain takes f or refuses it by 5, it does the same with the changed f
+pub chain-outcome-carried : {m a b : ℕ} {f f′ xs ys xs′ ys′ : List ℕ} {x x′ : Chained} → length f ≡ terms → Coprime a m → Changed m (degree f) a b f f′
+    → ChainOf m f xs ys x → ChainOf m f′ xs′ ys′ x′ → Reduced m f′ → area-words ≤ length xs′ → area-words ≤ length xs → check-one m f ≡ Answered → x′ .outcome ≡ x .outcome
+chain-outcome-carried = chain-law.outcome-changed

@@ -1,3 +1,4 @@
 pub mod Answers
 pub mod SplitChanged
 pub mod Demands
+pub mod Worked

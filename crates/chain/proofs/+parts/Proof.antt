@@ -29,52 +29,67 @@ parts-below t = and 2 parts-kinds.ps (falls 2 parts-kinds.ps _<_ μ-parts t) par
 abbrev parts-claims : ℕ → parts-lts.Claims
 parts-claims t = (first-split-reads.Asked, first-split-reads.Learnt, put-reads.Asked, put-reads.Learnt, parts-below t, parts.Post)
 
+-- f does not split
 parts-returns : (t : ℕ) → parts-lts.Need-returns (parts-claims t) (parts-at t) parts.Post
 parts-returns t c =
-    let p = c .before .before .before .before .before .before .before .before .before .pre .1 in
-    rw (c .before .before .put .ensures) (chained-whole _ (p .1 .1) (p .0 .1) (p .0 .0) (c .before .before .before .before .before .before .before .first-split .ensures .no (not-true _ (c .before .before .before .before .before .if1 .taken))))
+    let e = c .before .before .before .before .before in
+    let p = e .before .before .before .before .pre .1 in
+    rw (c .before .before .put .ensures) (chained-whole _ (p .1 .1) (p .0 .1) (p .0 .0) (e .before .before .first-split .ensures .no (not-true _ (e .if1 .taken))))
 
+-- a right degree is not 0
 parts-div-parts : (t : ℕ) → parts-lts.Need-div-parts (parts-claims t) (parts-at t) parts.Post
-parts-div-parts t c = let z = c .before .before .before .before .first-split .ensures .yes (not-false _ (c .before .before .if1 .left)) in omega (arith, z .two-right)
+parts-div-parts t c =
+    let e = c .before .before in
+    let z = e .before .before .first-split .ensures .yes (not-false _ (e .if1 .left)) in
+    omega (arith, z .two-right)
 
 parts-parts-requires : (t : ℕ) → parts-lts.Need-parts-requires (parts-claims t) (parts-at t) parts.Post
 parts-parts-requires t c κs =
-    let p = c .before .before .before .before .before .before .before .pre .1 in
-    let z = c .before .before .before .before .before .first-split .ensures .yes (not-false _ (c .before .before .before .if1 .left)) in
+    let e = c .before .before .before in
+    let p = e .before .before .before .before .pre .1 in
+    let z = e .before .before .first-split .ensures .yes (not-false _ (e .if1 .left)) in
     let l = left-less z in
     (omega arith, ((z .pair .reduced-left, z .pair .pair .left, left-coprime _ (p .1 .1) (p .0 .2) (z .product), z .two-left, omega arith, p .0 .5), p .1))
 
+-- there is a next place
 parts-put-requires-2 : (t : ℕ) → parts-lts.Need-put-requires-2 (parts-claims t) (parts-at t) parts.Post
 parts-put-requires-2 t c κs =
-    let p = c .before .before .before .before .before .before .before .before .before .before .before .before .pre .1 in
-    let z = c .before .before .before .before .before .before .before .before .before .before .first-split .ensures .yes (not-false _ (c .before .before .before .before .before .before .before .before .if1 .left)) in
+    let e = c .before .before .before .before .before .before .before .before in
+    let p = e .before .before .before .before .pre .1 in
+    let z = e .before .before .first-split .ensures .yes (not-false _ (e .if1 .left)) in
     (omega (arith, next-place z (c .before .before .before .before .parts .ensures) (p .0 .3) (p .0 .4)), omega arith, z .pair .reduced-right .long)
 
-parts-add-t19 : (t : ℕ) → parts-lts.Need-add-t19 (parts-claims t) (parts-at t) parts.Post
+parts-add-count : (t : ℕ) → parts-lts.Need-add-count (parts-claims t) (parts-at t) parts.Post
 unfolding most-parts
-parts-add-t19 t c =
-    let p = c .before .before .before .before .before .before .before .before .before .before .before .before .before .before .before .before .pre .1 in
-    let z = c .before .before .before .before .before .before .before .before .before .before .before .before .before .before .first-split .ensures .yes (not-false _ (c .before .before .before .before .before .before .before .before .before .before .before .before .if1 .left)) in
+parts-add-count t c =
+    let e = c .before .before .before .before .before .before .before .before .before .before .before .before in
+    let p = e .before .before .before .before .pre .1 in
+    let z = e .before .before .first-split .ensures .yes (not-false _ (e .if1 .left)) in
     omega (arith, next-place z (c .before .before .before .before .before .before .before .before .parts .ensures) (p .0 .3) (p .0 .4))
 
-parts-add-t27 : (t : ℕ) → parts-lts.Need-add-t27 (parts-claims t) (parts-at t) parts.Post
+-- tries and price are at most n
+parts-add-tries : (t : ℕ) → parts-lts.Need-add-tries (parts-claims t) (parts-at t) parts.Post
 unfolding limit
-parts-add-t27 t c =
-    let p = c .before .before .before .before .before .before .before .before .before .before .before .before .before .before .before .before .before .before .pre .1 in
-    let z = c .before .before .before .before .before .before .before .before .before .before .before .before .before .before .before .before .first-split .ensures .yes (not-false _ (c .before .before .before .before .before .before .before .before .before .before .before .before .before .before .if1 .left)) in
+parts-add-tries t c =
+    let e = c .before .before .before .before .before .before .before .before .before .before .before .before .before .before in
+    let p = e .before .before .before .before .pre .1 in
+    let z = e .before .before .first-split .ensures .yes (not-false _ (e .if1 .left)) in
     omega (arith, p .0 .4, chained-within (p .1 .1) (chained-more z (c .before .before .before .before .before .before .before .before .before .before .parts .ensures) (p .1 .1)) .0)
 
-parts-add-t28 : (t : ℕ) → parts-lts.Need-add-t28 (parts-claims t) (parts-at t) parts.Post
+parts-add-price : (t : ℕ) → parts-lts.Need-add-price (parts-claims t) (parts-at t) parts.Post
 unfolding limit
-parts-add-t28 t c =
-    let p = c .before .before .before .before .before .before .before .before .before .before .before .before .before .before .before .before .before .before .before .pre .1 in
-    let z = c .before .before .before .before .before .before .before .before .before .before .before .before .before .before .before .before .before .first-split .ensures .yes (not-false _ (c .before .before .before .before .before .before .before .before .before .before .before .before .before .before .before .if1 .left)) in
+parts-add-price t c =
+    let e = c .before .before .before .before .before .before .before .before .before .before .before .before .before .before .before in
+    let p = e .before .before .before .before .pre .1 in
+    let z = e .before .before .first-split .ensures .yes (not-false _ (e .if1 .left)) in
     omega (arith, p .0 .4, chained-within (p .1 .1) (chained-more z (c .before .before .before .before .before .before .before .before .before .before .before .parts .ensures) (p .1 .1)) .1)
 
+-- the parts of the left part, and the right part
 parts-returns-2 : (t : ℕ) → parts-lts.Need-returns-2 (parts-claims t) (parts-at t) parts.Post
 parts-returns-2 t c =
-    let p = c .before .before .before .before .before .before .before .before .before .before .before .before .before .before .before .before .before .before .before .pre .1 in
-    let z = c .before .before .before .before .before .before .before .before .before .before .before .before .before .before .before .before .before .first-split .ensures .yes (not-false _ (c .before .before .before .before .before .before .before .before .before .before .before .before .before .before .before .if1 .left)) in
+    let e = c .before .before .before .before .before .before .before .before .before .before .before .before .before .before .before in
+    let p = e .before .before .before .before .pre .1 in
+    let z = e .before .before .first-split .ensures .yes (not-false _ (e .if1 .left)) in
     rw (c .before .before .before .before .before .before .put2 .ensures) (chained-more z (c .before .before .before .before .before .before .before .before .before .before .before .parts .ensures) (p .1 .1))
 
 pub +parts-spec : {M : Type 1} → statement M
@@ -95,8 +110,8 @@ unfolding terms limit most-parts area-words
     (parts-parts-requires t)
     (λ c. search needs)
     (parts-put-requires-2 t)
-    (parts-add-t19 t)
-    (parts-add-t27 t)
-    (parts-add-t28 t)
+    (parts-add-count t)
+    (parts-add-tries t)
+    (parts-add-price t)
     (λ c. search needs)
     (parts-returns-2 t)

@@ -9,6 +9,7 @@ use Rattle.area.specs.Area.{most-parts, area-words}
 use Rattle.chain.proofs.chain.Statement.{statement}
 use Rattle.chain.proofs.chain.Tie as tie
 
+-- No. 11
 returns : tie.Need-returns
 unfolding terms limit most-parts area-words
 returns c = told-short (c .before .before .if1 .taken) (c .before .refused .ensures) (c .unchained .ensures)
@@ -17,35 +18,43 @@ check-one-requires : tie.Need-check-one-requires
 unfolding terms limit
 check-one-requires c κs = (omega arith, c .before .degree .ensures)
 
+-- Nos. 1 to 4
 returns-2 : tie.Need-returns-2
 unfolding terms limit most-parts area-words
-returns-2 c = told-refused (c .before .before .before .before .before .before .before .before .before .before .before .if1 .left) (c .before .before .before .check-one .ensures) (sym (c .before .before .refuses .ensures) ∙ c .before .if2 .taken) (c .before .before .before .before .before .before .before .before .before .clear .ensures) (c .unchained2 .ensures)
+returns-2 c =
+    let e = c .before in
+    told-refused (e .before .before .before .before .before .before .before .before .before .before .if1 .left) (e .before .before .check-one .ensures) (sym (e .before .refuses .ensures) ∙ e .if2 .taken) (e .before .before .before .before .before .before .before .before .clear .ensures) (c .unchained2 .ensures)
 
 shares-requires : tie.Need-shares-requires
 unfolding terms limit
-shares-requires c κs =
-    let e = sym (c .before .before .check-one .ensures) ∙ answered (sym (c .before .refuses .ensures) ∙ c .if2 .left) in
-    let (rf, mf, f2, fl, m1, m2) = accepted-as (c .before .before .before .before .degree .ensures) (accepted-one (omega arith) e) in
+shares-requires e κs =
+    let a = sym (e .before .before .check-one .ensures) ∙ answered (sym (e .before .refuses .ensures) ∙ e .if2 .left) in
+    let (rf, mf, f2, fl, m1, m2) = accepted-as (e .before .before .before .before .degree .ensures) (accepted-one (omega arith) a) in
     (m1, m2)
 
+-- No. 5
 returns-3 : tie.Need-returns-3
 unfolding terms limit most-parts area-words
 returns-3 c =
-    told-shared (c .before .before .before .before .before .before .before .before .before .before .before .before .before .before .if1 .left) (c .before .before .before .before .before .before .check-one .ensures) (sym (c .before .before .before .before .before .refuses .ensures) ∙ c .before .before .before .before .if2 .left) (c .before .before .before .before .before .before .before .before .degree .ensures) (c .before .before .before .shares .ensures)
-    (c .before .before .if3 .taken) (c .before .before .before .before .before .before .before .before .before .before .before .before .clear .ensures) (c .before .refused2 .ensures) (c .unchained3 .ensures)
+    let e = c .before .before .before .before in
+    told-shared (e .before .before .before .before .before .before .before .before .before .before .if1 .left) (e .before .before .check-one .ensures) (sym (e .before .refuses .ensures) ∙ e .if2 .left) (e .before .before .before .before .degree .ensures) (c .before .before .before .shares .ensures)
+    (c .before .before .if3 .taken) (e .before .before .before .before .before .before .before .before .clear .ensures) (c .before .refused2 .ensures) (c .unchained3 .ensures)
 
 parts-requires : tie.Need-parts-requires
 unfolding terms limit most-parts area-words
 parts-requires c κs =
-    let e = sym (c .before .before .before .before .before .before .before .check-one .ensures) ∙ answered (sym (c .before .before .before .before .before .before .refuses .ensures) ∙ c .before .before .before .before .before .if2 .left) in
-    let (rf, mf, f2, fl, m1, m2) = accepted-as (c .before .before .before .before .before .before .before .before .before .degree .ensures) (accepted-one (omega arith) e) in
+    let e = c .before .before .before .before .before in
+    let a = sym (e .before .before .check-one .ensures) ∙ answered (sym (e .before .refuses .ensures) ∙ e .if2 .left) in
+    let (rf, mf, f2, fl, m1, m2) = accepted-as (e .before .before .before .before .degree .ensures) (accepted-one (omega arith) a) in
     ((rf, mf, c .before .before .before .before .shares .ensures .no (c .before .before .before .if3 .left), f2, fl, c .before .before .table .ensures), (omega arith, m1, m2))
 
+-- the chain
 returns-4 : tie.Need-returns-4
 unfolding terms limit most-parts area-words
 returns-4 c =
-    told-chained (c .before .before .before .before .before .before .before .before .before .before .before .before .before .before .before .before .before .before .if1 .left) (c .before .before .before .before .before .before .before .before .before .before .check-one .ensures) (sym (c .before .before .before .before .before .before .before .before .before .refuses .ensures) ∙ c .before .before .before .before .before .before .before .before .if2 .left) (c .before .before .before .before .before .before .before .before .before .before .before .before .degree .ensures) (c .before .before .before .before .before .before .before .shares .ensures)
-    (c .before .before .before .before .before .before .if3 .left) (c .before .before .before .before .before .before .before .before .before .before .before .before .before .before .before .before .clear .ensures) (c .before .before .parts .ensures)
+    let e = c .before .before .before .before .before .before .before .before in
+    told-chained (e .before .before .before .before .before .before .before .before .before .before .if1 .left) (e .before .before .check-one .ensures) (sym (e .before .refuses .ensures) ∙ e .if2 .left) (e .before .before .before .before .degree .ensures) (c .before .before .before .before .before .before .before .shares .ensures)
+    (c .before .before .before .before .before .before .if3 .left) (e .before .before .before .before .before .before .before .before .clear .ensures) (c .before .before .parts .ensures)
 
 pub chain-spec : {M : Type 1} → statement M
 unfolding terms limit most-parts area-words

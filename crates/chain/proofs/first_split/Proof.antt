@@ -8,47 +8,50 @@ use Rattle.chain.proofs.first_split.Statement.{statement}
 use Rattle.chain.proofs.first_split.Tie as tie
 
 abbrev Inv-loop : tie.InvT-loop
-Inv-loop f n table m tries₀ s₀ tries s = (s ≤ n / 2 + 1) × Passed m n f s tries
+Inv-loop f n table m tries₀ s₀ tries s = Passed m n f s tries × (s ≤ n / 2 + 1)
 
 abbrev μ-loop : tie.MeasureT-loop
 μ-loop f n table m tries₀ s₀ tries s = n / 2 + 1 - s
 
 loop-holds : tie.Need-loop-holds Inv-loop μ-loop
-loop-holds c = (omega arith, passed-none _ _ _)
+loop-holds c = (passed-none _ _ _, omega arith)
 
+-- there are fewer tries than right degrees
 add-tries : tie.Need-add-tries Inv-loop μ-loop
-add-tries c = omega (arith, passed-few (c .before .before .loop .inv .1))
+add-tries c = omega (arith, passed-few (c .before .before .loop .inv .0))
 
 split-at-requires : tie.Need-split-at-requires Inv-loop μ-loop
 split-at-requires c κs =
     let p = c .before .before .before .pre in
-    ((half-degrees (c .before .before .loop .inv .1) (c .if1 .taken) (omega arith) (p .0 .4), p .0 .0, p .0 .1, p .0 .5), p .1)
+    ((half-degrees (c .before .before .loop .inv .0) (c .if1 .taken) (omega arith) (p .0 .4), p .0 .0, p .0 .1, p .0 .5), p .1)
 
 returns : tie.Need-returns Inv-loop μ-loop
 returns c =
     let t = c .before .before .before .before .before in
     let a = c .before .before .before .before .split-at in
     let p = t .before .before .before .pre in
-    let i = t .before .before .loop .inv .1 in
+    let i = t .before .before .loop .inv .0 in
     let d = half-degrees i (t .if1 .taken) (omega arith) (p .0 .4) in
     passed-hit i (t .if1 .taken) d (hit (a .result .verdict) (sym (c .before .before .before .is-pair .ensures) ∙ c .before .before .if2 .taken) (a .ensures))
 
+-- s divides n and there was no pair, or s does not divide n
 loop-again : tie.Need-loop-again Inv-loop μ-loop
 loop-again c =
     let p = c .before .before .before .pre in
-    let i = c .before .before .loop .inv .1 in (
-      omega arith,
+    let i = c .before .before .loop .inv .0 in (
       ⊎-elim
           (λ w.
           let d = half-degrees i (w .0 .taken) (omega arith) (p .0 .4) in
           let a = w .1 in
-          rw (w .4) (passed-missed i (w .0 .taken) (miss (a .result .left) (a .result .right) (a .result .verdict) (sym (w .2 .ensures) ∙ w .3 .left) (left-coprime _ (p .1 .0) (p .0 .2) (d .product)) (a .ensures))))
+          let none = miss (a .result .left) (a .result .right) (a .result .verdict) (sym (w .2 .ensures) ∙ w .3 .left) (left-coprime _ (p .1 .0) (p .0 .2) (d .product)) (a .ensures) in
+          rw (w .4) (passed-missed i (w .0 .taken) none))
           (λ w. rw (w .1) (passed-over i (w .0 .left)))
           (c .if1 .came),
+      omega arith,
     )
 
 returns-2 : tie.Need-returns-2 Inv-loop μ-loop
-returns-2 c = passed-all (c .before .loop .inv .1) (omega arith) (omega arith)
+returns-2 c = passed-all (c .before .loop .inv .0) (omega arith) (omega arith)
 
 pub first-split-spec : {M : Type 1} → statement M
 first-split-spec =
