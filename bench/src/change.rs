@@ -10,11 +10,20 @@ struct Refused {
 }
 
 extern "C" {
-    fn desk_change_polynomial(m: u32, f: *const Polynomial, a: u32, b: u32, out: *mut Polynomial) -> Refused;
+    fn desk_change_polynomial(
+        m: u32,
+        f: *const Polynomial,
+        a: u32,
+        b: u32,
+        out: *mut Polynomial,
+    ) -> Refused;
 }
 
 fn two_products(a: u32, x: u32, b: u32, y: u32, m: u64) -> u32 {
-    crate::plain::reduced((a as u64 * x as u64) as u128 + (b as u64 * y as u64) as u128, m)
+    crate::plain::reduced(
+        (a as u64 * x as u64) as u128 + (b as u64 * y as u64) as u128,
+        m,
+    )
 }
 
 /// a^(-n)·f(a·x + b) by Horner's rule, as the desk does it.
@@ -49,7 +58,10 @@ pub fn run() {
             *c = (random.next() % m as u64) as u32;
         }
         f[n] = 1;
-        let (a, b) = ((random.next() % m as u64) as u32, (random.next() % m as u64) as u32);
+        let (a, b) = (
+            (random.next() % m as u64) as u32,
+            (random.next() % m as u64) as u32,
+        );
         beside(
             &format!("change of a polynomial of degree {n}"),
             20,
@@ -57,11 +69,13 @@ pub fn run() {
                 let mut out = [0; TERMS];
                 let refused = unsafe { desk_change_polynomial(m, black_box(&f), a, b, &mut out) };
                 assert!(refused.number == 0 && refused.polynomial == 0 && refused.power == 0);
-                out.iter().fold(0u64, |x, &c| x.wrapping_mul(31).wrapping_add(c as u64))
+                out.iter()
+                    .fold(0u64, |x, &c| x.wrapping_mul(31).wrapping_add(c as u64))
             },
             &mut |_| {
                 let out = changed(m, black_box(&f), a, b).unwrap();
-                out.iter().fold(0u64, |x, &c| x.wrapping_mul(31).wrapping_add(c as u64))
+                out.iter()
+                    .fold(0u64, |x, &c| x.wrapping_mul(31).wrapping_add(c as u64))
             },
         );
     }

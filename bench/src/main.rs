@@ -2,12 +2,16 @@
 //! Every answer is compared first: a faster wrong answer does not count.
 
 mod change;
+mod listing;
 mod plain;
 mod residue;
 mod split;
 mod timing;
 
 fn main() {
+    if std::env::args().nth(1).as_deref() == Some("--list") {
+        return listing::plain();
+    }
     println!(
         "{:<52}{:>12}{:>12}{:>8}",
         "ns a call, the least of many short runs", "desk", "plain Rust", "ratio"
@@ -15,4 +19,5 @@ fn main() {
     residue::run();
     split::run();
     change::run();
+    listing::run();
 }

@@ -20,7 +20,15 @@ pub fn inner_product(a: &[u32], b: &[u32], k: usize, lo: usize, hi: usize, m: u6
     reduced(w, m)
 }
 
-pub fn strided_product(a: &[u32], b: &[u32], lo: usize, hi: usize, at: usize, step: usize, m: u64) -> u32 {
+pub fn strided_product(
+    a: &[u32],
+    b: &[u32],
+    lo: usize,
+    hi: usize,
+    at: usize,
+    step: usize,
+    m: u64,
+) -> u32 {
     let mut w = 0u128;
     let mut j = at;
     for i in lo..hi {
@@ -53,7 +61,11 @@ pub fn binomials() -> Vec<u64> {
     for j in 0..64usize {
         let row = j * (j + 1) / 2;
         for i in 0..=j {
-            table[row + i] = if i == 0 || i == j { 1 } else { table[row - j + i - 1] + table[row - j + i] };
+            table[row + i] = if i == 0 || i == j {
+                1
+            } else {
+                table[row - j + i - 1] + table[row - j + i]
+            };
         }
     }
     table
@@ -63,7 +75,15 @@ pub fn degree(f: &Polynomial) -> usize {
     f.iter().rposition(|&c| c != 0).unwrap_or(0)
 }
 
-fn right_part(f: &Polynomial, n: usize, r: usize, s: usize, u: u32, table: &[u64], m: u64) -> Polynomial {
+fn right_part(
+    f: &Polynomial,
+    n: usize,
+    r: usize,
+    s: usize,
+    u: u32,
+    table: &[u64],
+    m: u64,
+) -> Polynomial {
     let mut b = [0u32; 64];
     for i in 0..=r {
         b[i] = (table[r * (r + 1) / 2 + i] % m) as u32;
@@ -101,7 +121,14 @@ fn powers(h: &Polynomial, r: usize, s: usize, m: u64) -> [u32; 64 * TERMS] {
     t
 }
 
-fn left_part(f: &Polynomial, h: &Polynomial, n: usize, r: usize, s: usize, m: u64) -> Option<Polynomial> {
+fn left_part(
+    f: &Polynomial,
+    h: &Polynomial,
+    n: usize,
+    r: usize,
+    s: usize,
+    m: u64,
+) -> Option<Polynomial> {
     let t = powers(h, r, s, m);
     let mut g = [0u32; TERMS];
     for j in (0..=r).rev() {
@@ -117,7 +144,14 @@ fn left_part(f: &Polynomial, h: &Polynomial, n: usize, r: usize, s: usize, m: u6
 }
 
 /// The pair at left degree r, right degree s; r must have an inverse.
-pub fn split_at(f: &Polynomial, n: usize, r: usize, s: usize, table: &[u64], m: u64) -> Option<(Polynomial, Polynomial)> {
+pub fn split_at(
+    f: &Polynomial,
+    n: usize,
+    r: usize,
+    s: usize,
+    table: &[u64],
+    m: u64,
+) -> Option<(Polynomial, Polynomial)> {
     let u = invert(r as u64, m)?;
     let h = right_part(f, n, r, s, u, table, m);
     left_part(f, &h, n, r, s, m).map(|g| (g, h))

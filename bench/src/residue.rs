@@ -4,7 +4,15 @@ use crate::timing::{beside, Random};
 const MOST: u64 = 1 << 32;
 
 extern "C" {
-    fn measure_product(a: *const u32, la: usize, b: *const u32, lb: usize, m: u64, out: *mut u32, lout: usize);
+    fn measure_product(
+        a: *const u32,
+        la: usize,
+        b: *const u32,
+        lb: usize,
+        m: u64,
+        out: *mut u32,
+        lout: usize,
+    );
     fn measure_power(a: u32, n: usize, m: u64) -> u32;
     fn measure_invert(a: u64, m: u64) -> u64;
 }
@@ -13,7 +21,8 @@ extern "C" {
 
 #[inline(never)]
 fn product(a: &[u32], b: &[u32], m: u64, out: &mut [u32]) {
-    if m == 0 || MOST < m || a.len() < out.len() || b.len() < out.len() || 0x7fff_ffff <= out.len() {
+    if m == 0 || MOST < m || a.len() < out.len() || b.len() < out.len() || 0x7fff_ffff <= out.len()
+    {
         return;
     }
     for k in 0..out.len() {
@@ -56,7 +65,15 @@ pub fn run() {
                 &format!("the {terms} coefficients of a product, m = {m}"),
                 100,
                 &mut |i| unsafe {
-                    measure_product(a[i..].as_ptr(), a.len() - i, b.as_ptr(), b.len(), m, ours.as_mut_ptr(), terms);
+                    measure_product(
+                        a[i..].as_ptr(),
+                        a.len() - i,
+                        b.as_ptr(),
+                        b.len(),
+                        m,
+                        ours.as_mut_ptr(),
+                        terms,
+                    );
                     ours[terms - 1] as u64
                 },
                 &mut |i| {

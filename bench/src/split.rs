@@ -10,8 +10,19 @@ struct Refused {
 }
 
 extern "C" {
-    fn desk_compose(m: u32, g: *const Polynomial, h: *const Polynomial, f: *mut Polynomial) -> Refused;
-    fn desk_split(m: u32, f: *const Polynomial, r: usize, g: *mut Polynomial, h: *mut Polynomial) -> Refused;
+    fn desk_compose(
+        m: u32,
+        g: *const Polynomial,
+        h: *const Polynomial,
+        f: *mut Polynomial,
+    ) -> Refused;
+    fn desk_split(
+        m: u32,
+        f: *const Polynomial,
+        r: usize,
+        g: *mut Polynomial,
+        h: *mut Polynomial,
+    ) -> Refused;
 }
 
 fn monic(random: &mut Random, m: u32, n: usize) -> Polynomial {
@@ -33,7 +44,10 @@ fn planted(random: &mut Random, m: u32, r: usize, s: usize) -> Polynomial {
 }
 
 fn sum(g: &Polynomial, h: &Polynomial) -> u64 {
-    g.iter().zip(h).fold(0, |a, (x, y)| a.wrapping_mul(31).wrapping_add(*x as u64 ^ (*y as u64) << 32))
+    g.iter().zip(h).fold(0, |a, (x, y)| {
+        a.wrapping_mul(31)
+            .wrapping_add(*x as u64 ^ (*y as u64) << 32)
+    })
 }
 
 /// Both times of one split of f at r, the answers compared first.
@@ -45,7 +59,11 @@ fn one(label: &str, m: u32, f: &Polynomial, r: usize, table: &[u64]) {
             let (mut g, mut h) = ([0; TERMS], [0; TERMS]);
             let refused = unsafe { desk_split(m, black_box(f), r, &mut g, &mut h) };
             assert!(refused.polynomial == 0 && refused.power == 0);
-            if refused.number == 0 { sum(&g, &h) } else { 0 }
+            if refused.number == 0 {
+                sum(&g, &h)
+            } else {
+                0
+            }
         },
         &mut |_| match split(m, black_box(f), r, black_box(table)) {
             Some((g, h)) => sum(&g, &h),
@@ -59,12 +77,24 @@ pub fn run() {
     for n in [60usize, 120, 126] {
         let whole = monic(&mut random, m, n);
         for r in (2..=n / 2).filter(|r| n % r == 0) {
-            one(&format!("split, degree {n} at r = {r}, no pair"), m, &whole, r, &table);
+            one(
+                &format!("split, degree {n} at r = {r}, no pair"),
+                m,
+                &whole,
+                r,
+                &table,
+            );
         }
         for r in (2..=n / 2).filter(|r| n % r == 0) {
             let f = planted(&mut random, m, r, n / r);
             assert_eq!(degree(&f), n);
-            one(&format!("split, degree {n} at r = {r}, a pair"), m, &f, r, &table);
+            one(
+                &format!("split, degree {n} at r = {r}, a pair"),
+                m,
+                &f,
+                r,
+                &table,
+            );
         }
     }
 }

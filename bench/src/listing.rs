@@ -1,0 +1,231 @@
+//! Records per second of the proved program `list` and of a plain Rust listing by the same method, both as programs that
+//! read a file and write to a pipe.
+
+use crate::plain::{accepted, binomials, degree, invert, split_at, Polynomial, TERMS};
+use crate::timing::Random;
+use std::fs::{self, File};
+use std::io::{Read, Write};
+use std::path::Path;
+use std::process::{Command, Stdio};
+use std::time::Instant;
+
+const BYTES: usize = 512;
+const RUNS: usize = 5;
+
+/// The refusal number of a whole record, or 0.
+fn check(m: u32, f: &Polynomial) -> u32 {
+    if !(2..=2147483647).contains(&m) {
+        1
+    } else if f.iter().any(|&c| c >= m) {
+        2
+    } else if degree(f) < 2 {
+        3
+    } else if f[degree(f)] != 1 {
+        4
+    } else {
+        0
+    }
+}
+
+/// The degrees of the chain's parts, left to right, and the tries.
+fn chain(m: u64, f: &Polynomial, table: &[u64]) -> (Vec<usize>, usize) {
+    let n = degree(f);
+    let mut tries = 0;
+    for s in 2..=n / 2 {
+        if n % s == 0 {
+            tries += 1;
+            if let Some((g, _)) = split_at(f, n, n / s, s, table, m) {
+                let (mut parts, more) = chain(m, &g, table);
+                parts.push(s);
+                return (parts, tries + more);
+            }
+        }
+    }
+    (vec![n], tries)
+}
+
+fn line(record: &[u8], number: usize, table: &[u64], out: &mut Vec<u8>) {
+    if record.len() < BYTES {
+        writeln!(out, "{number} 9").unwrap();
+        return;
+    }
+    let word = |i: usize| u32::from_le_bytes(record[4 * i..4 * i + 4].try_into().unwrap());
+    let m = word(0);
+    let mut f = [0; TERMS];
+    for (i, c) in f.iter_mut().enumerate() {
+        *c = word(i + 1);
+    }
+    let refused = check(m, &f);
+    if refused != 0 {
+        writeln!(out, "{number} {refused}").unwrap();
+        return;
+    }
+    let n = degree(&f);
+    if invert(n as u64, m as u64).is_none() {
+        writeln!(out, "{number} 5").unwrap();
+        return;
+    }
+    let (parts, tries) = chain(m as u64, &f, table);
+    write!(
+        out,
+        "{number} 0 {n} {} {tries} {}",
+        parts.len(),
+        parts.iter().sum::<usize>()
+    )
+    .unwrap();
+    for d in parts {
+        write!(out, " {d}").unwrap();
+    }
+    out.push(b'\n');
+}
+
+/// The plain listing as a program: standard input to standard output.
+pub fn plain() {
+    let table = binomials();
+    let mut input = std::io::stdin().lock();
+    let mut output = std::io::stdout().lock();
+    let (mut number, mut block) = (0, vec![0u8; 125 * BYTES]);
+    loop {
+        let mut filled = 0;
+        while filled < block.len() {
+            match input.read(&mut block[filled..]) {
+                Ok(0) | Err(_) => break,
+                Ok(n) => filled += n,
+            }
+        }
+        let mut out = Vec::with_capacity(1 << 14);
+        for record in block[..filled].chunks(BYTES) {
+            number += 1;
+            line(record, number, &table, &mut out);
+        }
+        if output.write_all(&out).is_err() || filled < block.len() {
+            return;
+        }
+    }
+}
+
+fn record(m: u32, f: &Polynomial) -> Vec<u8> {
+    std::iter::once(&m)
+        .chain(f)
+        .flat_map(|w| w.to_le_bytes())
+        .collect()
+}
+
+fn monic(random: &mut Random, m: u32, n: usize, constant: bool) -> Polynomial {
+    let mut f = [0; TERMS];
+    for c in f.iter_mut().take(n).skip(usize::from(!constant)) {
+        *c = (random.next() % m as u64) as u32;
+    }
+    f[n] = 1;
+    f
+}
+
+/// g(h) by Horner's rule.
+fn compose(m: u32, g: &Polynomial, h: &Polynomial) -> Polynomial {
+    let (m, s) = (m as u64, degree(h));
+    let mut f = [0u64; TERMS];
+    for i in (0..=degree(g)).rev() {
+        let mut next = [0u64; TERMS];
+        for (a, &x) in f.iter().enumerate().filter(|(_, &x)| x != 0) {
+            for b in 0..=s {
+                next[a + b] = (next[a + b] + x * h[b] as u64) % m;
+            }
+        }
+        next[0] = (next[0] + g[i] as u64) % m;
+        f = next;
+    }
+    f.map(|x| x as u32)
+}
+
+fn planted(random: &mut Random, m: u32, degrees: &[usize]) -> Polynomial {
+    degrees[1..]
+        .iter()
+        .fold(monic(random, m, degrees[0], true), |f, &d| {
+            let h = monic(random, m, d, false);
+            compose(m, &f, &h)
+        })
+}
+
+const CHAINS: [&[usize]; 6] = [
+    &[2, 3, 3, 7],
+    &[2, 2, 2, 2, 2, 2],
+    &[3, 5, 7],
+    &[11, 11],
+    &[2, 61],
+    &[5, 5, 5],
+];
+
+/// The files that both programs list.
+fn files(random: &mut Random) -> Vec<(&'static str, Vec<u8>, usize)> {
+    let m = 2147483647;
+    let mut all = Vec::new();
+    for (label, n) in [
+        ("indecomposable, degree 126", 126),
+        ("indecomposable, degree 120", 120),
+        ("indecomposable, degree 64", 64),
+    ] {
+        let bytes = (0..2000)
+            .flat_map(|_| record(m, &monic(random, m, n, true)))
+            .collect();
+        all.push((label, bytes, 2000));
+    }
+    let chains = (0..4000)
+        .flat_map(|i| record(m, &planted(random, m, CHAINS[i % 6])))
+        .collect();
+    all.push(("planted chains", chains, 4000));
+    let refused = (0..200000)
+        .flat_map(|i| {
+            let mut f = monic(random, m, 126, true);
+            f[(i * 7) % 127] = if i % 2 == 0 { m } else { 5 };
+            record(if i % 3 == 0 { 1 } else { m }, &f)
+        })
+        .collect();
+    all.push(("refused, and a few whole", refused, 200000));
+    let mixed = (0..6000)
+        .flat_map(|i| match i % 3 {
+            0 => record(m, &monic(random, m, 2 + i % 125, true)),
+            1 => record(1009, &planted(random, 1009, CHAINS[i % 6])),
+            _ => record(1, &[0; TERMS]),
+        })
+        .collect();
+    all.push(("mixed", mixed, 6000));
+    all
+}
+
+fn seconds(program: &mut Command, file: &Path) -> (f64, Vec<u8>) {
+    let mut best = (f64::MAX, Vec::new());
+    for _ in 0..RUNS {
+        let start = Instant::now();
+        let output = program
+            .stdin(File::open(file).unwrap())
+            .stderr(Stdio::inherit())
+            .output()
+            .unwrap();
+        best.0 = best.0.min(start.elapsed().as_secs_f64());
+        best.1 = output.stdout;
+    }
+    best
+}
+
+pub fn run() {
+    println!();
+    println!(
+        "{:<52}{:>12}{:>12}{:>8}",
+        "records per second", "list", "plain Rust", "ratio"
+    );
+    assert!(accepted(7, &monic(&mut Random(9), 7, 4, true)));
+    let folder = Path::new("target/bench-records");
+    fs::create_dir_all(folder).unwrap();
+    for (label, bytes, count) in files(&mut Random(4)) {
+        let file = folder.join("records");
+        fs::write(&file, bytes).unwrap();
+        let (ours, ours_text) = seconds(&mut Command::new("target/bin/list"), &file);
+        let (plain, plain_text) = seconds(
+            Command::new(std::env::current_exe().unwrap()).arg("--list"),
+            &file,
+        );
+        assert!(ours_text == plain_text, "{label}: the listings differ");
+        let (a, b) = (count as f64 / ours, count as f64 / plain);
+        println!("{label:<52}{a:>12.0}{b:>12.0}{:>8.2}", a / b);
+    }
+}

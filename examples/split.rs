@@ -1,0 +1,47 @@
+//! Splits 01's polynomial B at each left degree, and prints its chain.
+
+const TERMS: usize = 127;
+const WORDS: usize = 762;
+type Polynomial = [u32; TERMS];
+
+#[repr(C)]
+struct Refused {
+    number: u32,
+    polynomial: u32,
+    power: u32,
+}
+
+extern "C" {
+    fn desk_split(m: u32, f: *const Polynomial, r: usize, g: *mut Polynomial, h: *mut Polynomial) -> Refused;
+    fn desk_chain(m: u32, f: *const Polynomial, area: *mut u32, count: usize, numbers: *mut [usize; 3]) -> Refused;
+    fn desk_part(area: *const u32, count: usize, i: usize, place: *mut [usize; 2]);
+}
+
+fn print(name: &str, f: &[u32]) {
+    let n = f.iter().rposition(|&c| c != 0).unwrap_or(0);
+    let words: Vec<String> = f[..=n].iter().map(u32::to_string).collect();
+    println!("{name} {}", words.join(" "));
+}
+
+fn main() {
+    let mut f = [0; TERMS];
+    f[..7].copy_from_slice(&[96, 3, 9, 1, 6, 0, 1]);
+    for r in 2..=3 {
+        let (mut g, mut h) = ([0; TERMS], [0; TERMS]);
+        let refused = unsafe { desk_split(101, &f, r, &mut g, &mut h) };
+        println!("r = {r}: No. {}", refused.number);
+        if refused.number == 0 {
+            print("  g", &g);
+            print("  h", &h);
+        }
+        assert!(refused.polynomial == 0 && refused.power == 0);
+    }
+    let (mut area, mut numbers) = ([0; WORDS], [0; 3]);
+    unsafe { desk_chain(101, &f, area.as_mut_ptr(), WORDS, &mut numbers) };
+    println!("parts {}, tries {}, price {}", numbers[0], numbers[1], numbers[2]);
+    for i in 0..numbers[0] {
+        let mut place = [0; 2];
+        unsafe { desk_part(area.as_ptr(), WORDS, i, &mut place) };
+        print("  part", &area[place[0]..place[0] + place[1]]);
+    }
+}
