@@ -1,23 +1,7 @@
+use crate::desk::desk_change_polynomial;
 use crate::plain::{invert, Polynomial, TERMS};
 use crate::timing::{beside, Random};
 use std::hint::black_box;
-
-#[repr(C)]
-struct Refused {
-    number: u32,
-    polynomial: u32,
-    power: u32,
-}
-
-extern "C" {
-    fn desk_change_polynomial(
-        m: u32,
-        f: *const Polynomial,
-        a: u32,
-        b: u32,
-        out: *mut Polynomial,
-    ) -> Refused;
-}
 
 fn two_products(a: u32, x: u32, b: u32, y: u32, m: u64) -> u32 {
     crate::plain::reduced(

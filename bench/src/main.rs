@@ -2,6 +2,7 @@
 //! Every answer is compared first: a faster wrong answer does not count.
 
 mod change;
+mod desk;
 mod listing;
 mod plain;
 mod residue;

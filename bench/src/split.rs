@@ -1,29 +1,7 @@
+use crate::desk::{desk_compose, desk_split};
 use crate::plain::{binomials, degree, split, Polynomial, TERMS};
 use crate::timing::{beside, Random};
 use std::hint::black_box;
-
-#[repr(C)]
-struct Refused {
-    number: u32,
-    polynomial: u32,
-    power: u32,
-}
-
-extern "C" {
-    fn desk_compose(
-        m: u32,
-        g: *const Polynomial,
-        h: *const Polynomial,
-        f: *mut Polynomial,
-    ) -> Refused;
-    fn desk_split(
-        m: u32,
-        f: *const Polynomial,
-        r: usize,
-        g: *mut Polynomial,
-        h: *mut Polynomial,
-    ) -> Refused;
-}
 
 fn monic(random: &mut Random, m: u32, n: usize) -> Polynomial {
     let mut f = [0; TERMS];
