@@ -176,11 +176,15 @@ fn files(random: &mut Random) -> Vec<(&'static str, Vec<u8>, usize)> {
     let refused = (0..200000)
         .flat_map(|i| {
             let mut f = monic(random, m, 126, true);
-            f[(i * 7) % 127] = if i % 2 == 0 { m } else { 5 };
-            record(if i % 3 == 0 { 1 } else { m }, &f)
+            match i % 3 {
+                0 => f[(i * 7) % 127] = m,
+                1 => f[126] = 2,
+                _ => (),
+            }
+            record(if i % 3 == 2 { 1 } else { m }, &f)
         })
         .collect();
-    all.push(("refused, and a few whole", refused, 200000));
+    all.push(("refused by 1, 2 and 4", refused, 200000));
     let mixed = (0..6000)
         .flat_map(|i| match i % 3 {
             0 => record(m, &monic(random, m, 2 + i % 125, true)),

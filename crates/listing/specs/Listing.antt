@@ -1,0 +1,75 @@
+-- The listing: the lines of records, as 01 has them.
+--
+--   Line b k text              text is the line of the record whose bytes are b and whose number is k
+--   Lines b k text             text is the lines of the records that b is cut into, numbered from k on
+--   number-of o                01's number of an outcome: 0 if it is an answer
+--   LineIn b k xs ys r         the line of b stands at the start of ys, which was xs, and r is its length
+--   AcceptedIn m f k xs ys r   the same for a record with the words m and f that is not refused by 9 or 1 to 4
+--   most-records, most-lines   how many records are listed at a time, and the most bytes of their lines
+--   LinesIn b k xs ys r        the lines of b stand at the start of ys, which was xs, and r is their length
+--   RecordEnd at n r           r is where the record that starts at `at` ends, in n bytes
+use mathlib.Core.Path.{_≡_}
+use mathlib.Core.List.{List, [], _∷_, _++_}
+use Prim.Native.Nat.{ℕ, _+_, _*_, _<_, _≤_}
+use lib.ListN.{length, take, drop}
+use Rattle.algebra.specs.Number.{Coprime}
+use Rattle.algebra.specs.Polynomial.{degree}
+use Rattle.algebra.specs.Chain.{Chain, degrees, price}
+use Rattle.refusal.specs.Refusal.{number}
+use Rattle.refusal.specs.declared.Refusal.{Refusal}
+use Rattle.refusal.specs.declared.Reason.the-variants.{Factor}
+use Rattle.refusal.specs.declared.Outcome.{Outcome}
+use Rattle.refusal.specs.declared.Outcome.the-variants.{Answered, Refused}
+use Rattle.record.specs.Record.{word, record-bytes, coefficients, check-record}
+use Rattle.listing.specs.Text.{most-line, fields, left-to-right, Put}
+
+-- a refused record gives its first two fields only: by its check; by 5, since n and m share a factor; and else the chain's numbers
+pub data Line (b : List ℕ) (k : ℕ) (text : List ℕ) : Type 0 where
+  refused : {r : Refusal} → check-record b ≡ Refused r → text ≡ fields k (number (r .reason) ∷ []) → Line b k text
+  shared : check-record b ≡ Answered → (Coprime (degree (coefficients b)) (word b 0) → ⊥) → text ≡ fields k (number Factor ∷ []) → Line b k text
+  listed : {parts : List (List ℕ)} {t : ℕ} → check-record b ≡ Answered → Coprime (degree (coefficients b)) (word b 0)
+      → Chain (word b 0) (degree (coefficients b)) (coefficients b) parts t
+      → text ≡ fields k (0 ∷ degree (coefficients b) ∷ length parts ∷ t ∷ price parts ∷ left-to-right (degrees parts)) → Line b k text
+
+-- no line for no bytes; the last record may be short
+pub data Lines : List ℕ → ℕ → List ℕ → Type 0 where
+  none : {b : List ℕ} {k : ℕ} {text : List ℕ} → b ≡ [] → text ≡ [] → Lines b k text
+  more : {b : List ℕ} {k : ℕ} {t u text : List ℕ} → 0 < length b → Line (take record-bytes b) k t → Lines (drop record-bytes b) (k + 1) u → text ≡ t ++ u → Lines b k text
+
+-- 0 for an answer
+abbrev pub number-of : Outcome → ℕ
+number-of Answered = 0
+number-of (Refused r) = number (r .reason)
+
+-- the line of a record in a buffer, and nothing else has changed
+pub record LineIn (b : List ℕ) (k : ℕ) (xs ys : List ℕ) (r : ℕ) : Type 0 where
+  pub text : List ℕ
+  pub line : Line b k text
+  pub put : Put xs 0 text most-line ys r
+
+-- the line of any record that holds m and f
+pub record AcceptedIn (m : ℕ) (f : List ℕ) (k : ℕ) (xs ys : List ℕ) (r : ℕ) : Type 0 where
+  pub text : List ℕ
+  pub line : (b : List ℕ) → check-record b ≡ Answered → m ≡ word b 0 → f ≡ coefficients b → Line b k text
+  pub put : Put xs 0 text most-line ys r
+
+-- so many records go through the program's memory at a time
+unfoldable pub most-records : ℕ
+most-records = 125
+
+-- a line for each
+unfoldable pub most-lines : ℕ
+most-lines = most-records * most-line
+
+-- the lines of several records in a buffer, and nothing else has changed
+pub record LinesIn (b : List ℕ) (k : ℕ) (xs ys : List ℕ) (r : ℕ) : Type 0 where
+  pub text : List ℕ
+  pub lines : Lines b k text
+  pub put : Put xs 0 text most-lines ys r
+
+-- a whole record on, or where the bytes end
+pub record RecordEnd (at n r : ℕ) : Type 0 where
+  pub after : at < r
+  pub short : r ≤ at + record-bytes
+  pub within : r ≤ n
+  pub full : r < n → r ≡ at + record-bytes
