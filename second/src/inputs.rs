@@ -1,30 +1,65 @@
-//! Good inputs that every operation needs: moduli, residues and polynomials
-//! that 01 takes, the edges more often than chance would give them.
+//! Good inputs that every operation needs: moduli, residues, polynomials,
+//! degrees and changes that 01 takes, the edges more often than chance would
+//! give them.
 
+use crate::change::{self, Change};
+use crate::damage::offending_value;
 use crate::polynomial::{Polynomial, TOP_DEGREE};
 use crate::random::Random;
-use crate::residue::TOP_MODULUS;
+use crate::residue::{common_factor, multiply, TOP_MODULUS};
 
-/// The ends of the range, primes and composites, and both sides of the widths
-/// of 1, 2 and 3 bytes.
-const MODULI: [u32; 16] = [
+/// The ends of the range, primes, powers of primes and other composites, and
+/// both sides of the widths of 1, 2 and 3 bytes.
+const MODULI: [u32; 40] = [
     2,
     3,
     4,
     5,
     6,
+    7,
+    8,
     9,
+    10,
+    15,
+    25,
+    27,
+    35,
+    49,
     101,
+    121,
     255,
     256,
     257,
+    343,
+    1_001,
+    30_030,
     65_536,
     65_537,
     16_777_216,
     16_777_259,
+    // 11^8, 3^19, 5^13, 7^11.
+    214_358_881,
+    1_162_261_467,
+    1_220_703_125,
+    1_977_326_743,
+    // 2^30, 2·3·5·7·11·13·17·19·23.
+    1_073_741_824,
+    223_092_870,
+    // Twice, three times and five times a prime.
+    2_147_483_578,
+    2_147_483_643,
+    2_147_483_545,
+    // Two large primes, one of them twice.
+    2_146_654_199,
+    2_147_117_569,
+    // The largest primes.
+    2_147_483_629,
     TOP_MODULUS - 1,
     TOP_MODULUS,
 ];
+
+/// Some of these divide every modulus above that is not prime.
+const FACTORS: [u32; 11] = [2, 3, 5, 7, 11, 13, 17, 19, 23, 46_327, 46_337];
 
 /// Numbers that look like 0 or 1 when only some of their bytes are looked at.
 pub const LOOK_SMALL: [u32; 7] = [
@@ -38,6 +73,8 @@ pub const LOOK_SMALL: [u32; 7] = [
 ];
 
 const DEGREES: [usize; 10] = [2, 3, 4, 6, 12, 62, 63, 64, 125, TOP_DEGREE];
+
+// Moduli.
 
 /// m from 2 to 2,147,483,647.
 pub fn modulus(random: &mut Random) -> u32 {
@@ -54,6 +91,63 @@ fn small_modulus(random: &mut Random) -> u32 {
     let any = random.below(1 << bits) as u32;
     any.clamp(2, TOP_MODULUS)
 }
+
+/// m that shares no factor above 1 with the number, which is not 0.
+pub fn modulus_without(number: usize, random: &mut Random) -> u32 {
+    loop {
+        let mut m = u64::from(modulus(random));
+        // What is shared is divided out, so that composites stay composite.
+        while common_factor(m, number as u64) > 1 {
+            m /= common_factor(m, number as u64);
+        }
+        if m >= 2 {
+            return m as u32;
+        }
+    }
+}
+
+/// m that shares a factor above 1 with the number, which is at least 2.
+pub fn modulus_sharing(number: usize, random: &mut Random) -> u32 {
+    let divides = |d: &usize| number.is_multiple_of(*d);
+    let divisors: Vec<usize> = (2..=number).filter(divides).collect();
+    let shared = random.pick(&divisors) as u32;
+    match random.below(4) {
+        0 => shared,
+        1 => shared * shared,
+        _ => shared * (modulus(random) / shared).max(1),
+    }
+}
+
+/// What kind of number a modulus is.
+pub const PRIME: &str = "m prime";
+pub const PRIME_POWER: &str = "m a prime power";
+pub const SEVERAL_PRIMES: &str = "m of several primes";
+
+/// By trial; only for moduli of two bytes, so that it costs little.
+pub fn kind_of_modulus(m: u32) -> Option<&'static str> {
+    if m > 65_535 {
+        return None;
+    }
+    let least = (2..=m.isqrt()).find(|p| m.is_multiple_of(*p));
+    let Some(p) = least else {
+        return Some(PRIME);
+    };
+    let mut rest = m;
+    while rest.is_multiple_of(p) {
+        rest /= p;
+    }
+    let power = rest == 1;
+    Some(if power { PRIME_POWER } else { SEVERAL_PRIMES })
+}
+
+/// A factor of m that is neither 1 nor m, where one is known.
+fn factor(m: u32, random: &mut Random) -> Option<u32> {
+    let fits = |p: &&u32| **p < m && m.is_multiple_of(**p);
+    let known: Vec<u32> = FACTORS.iter().filter(fits).copied().collect();
+    (!known.is_empty()).then(|| random.pick(&known))
+}
+
+// Coefficients and polynomials.
 
 /// A coefficient from 0 to m - 1.
 pub fn residue(random: &mut Random, m: u32) -> u32 {
@@ -77,14 +171,39 @@ pub fn degree(random: &mut Random) -> usize {
     random.between(2, TOP_DEGREE)
 }
 
+/// r and s, both at least 2, with a product of 126 at most.
+pub fn two_degrees(random: &mut Random) -> (usize, usize) {
+    let first = match random.below(4) {
+        0 => random.pick(&[2, 3, 7, 9, 11, 42, 62, 63]),
+        1 => random.between(2, TOP_DEGREE / 2),
+        _ => random.between(2, 11),
+    };
+    let room = TOP_DEGREE / first;
+    let second = if random.once_in(4) {
+        room
+    } else {
+        random.between(2, room)
+    };
+    if random.once_in(2) {
+        return (second, first);
+    }
+    (first, second)
+}
+
 /// A monic polynomial of the given degree. How many of its coefficients are
-/// zero differs from polynomial to polynomial: from none to nearly all.
+/// zero differs from polynomial to polynomial: from none to nearly all. Where
+/// m is composite, all but the leading one may share a factor with it, so that
+/// products of them vanish.
 pub fn monic(random: &mut Random, degree: usize, m: u32) -> Polynomial {
     let mut f = Polynomial::ZERO;
     let eighths_not_zero = 1 + random.below(8);
+    let common = match random.below(6) {
+        0 => factor(m, random).unwrap_or(1),
+        _ => 1,
+    };
     for place in &mut f.0[..degree] {
         if random.below(8) < eighths_not_zero {
-            *place = residue(random, m);
+            *place = multiply(residue(random, m), common, m);
         }
     }
     f.0[degree] = 1;
@@ -93,8 +212,7 @@ pub fn monic(random: &mut Random, degree: usize, m: u32) -> Polynomial {
 
 /// g(h(x)) for two monic polynomials: the kind of f that splits.
 fn composed(random: &mut Random, m: u32) -> Polynomial {
-    let r = random.between(2, TOP_DEGREE / 2);
-    let s = random.between(2, TOP_DEGREE / r);
+    let (r, s) = two_degrees(random);
     let g = monic(random, r, m);
     let h = monic(random, s, m);
     g.compose(&h, m).expect("r times s is 126 at most")
@@ -107,4 +225,42 @@ pub fn polynomial(random: &mut Random, m: u32) -> Polynomial {
     }
     let n = degree(random);
     monic(random, n, m)
+}
+
+// Changes.
+
+/// A change that is not refused by 8: a has an inverse.
+pub fn change(random: &mut Random, m: u32) -> Change {
+    let b = match random.below(4) {
+        0 => 0,
+        _ => residue(random, m),
+    };
+    loop {
+        let found = [residue(random, m), b];
+        if !change::refused(found, m) {
+            return found;
+        }
+    }
+}
+
+/// A change that is refused by 8, whatever m is: a or b too large, or a without
+/// an inverse; a is 0 where no other is known.
+pub fn bad_change(random: &mut Random, m: u32) -> Change {
+    if m < 2 {
+        return [random.below(3) as u32, random.below(3) as u32];
+    }
+    let [a, b] = change(random, m);
+    match random.below(4) {
+        0 => [a, offending_value(m, random)],
+        1 => [offending_value(m, random), b],
+        2 => [0, b],
+        _ => [without_inverse(m, random), b],
+    }
+}
+
+fn without_inverse(m: u32, random: &mut Random) -> u32 {
+    match factor(m, random) {
+        Some(p) => multiply(p, residue(random, m), m),
+        None => 0,
+    }
 }

@@ -58,24 +58,73 @@ impl<T> Lent<T> {
     }
 }
 
-/// Bytes lent to the desk to read. They stand at the very end of a heap
-/// allocation of exactly their size and a few bytes in front: a memory checker
-/// notices a read past the end, and the record is not always aligned.
-pub struct Given {
-    whole: Box<[u8]>,
-    copy: Box<[u8]>,
+/// Words lent to the desk to write, as many as a caller of the chain pleases.
+pub struct LentArea {
+    // Fence, words, fence.
+    whole: Box<[u32]>,
+    fence: [u32; FENCE],
+}
+
+impl LentArea {
+    pub fn new(words: &[u32], random: &mut Random) -> LentArea {
+        let fence = [garbage(random); FENCE];
+        LentArea {
+            whole: [&fence[..], words, &fence[..]].concat().into_boxed_slice(),
+            fence,
+        }
+    }
+
+    pub fn count(&self) -> usize {
+        self.whole.len() - 2 * FENCE
+    }
+
+    pub fn pointer(&mut self) -> *mut u32 {
+        // SAFETY: the words begin after the first fence, which is there.
+        unsafe { self.whole.as_mut_ptr().add(FENCE) }
+    }
+
+    /// The words as the desk left them.
+    pub fn give_back(self, name: &str) -> Result<Vec<u32>, String> {
+        let (before, rest) = self.whole.split_at(FENCE);
+        let (words, after) = rest.split_at(rest.len() - FENCE);
+        if before != self.fence || after != self.fence {
+            return Err(format!("the desk wrote outside {name}"));
+        }
+        Ok(words.to_vec())
+    }
+}
+
+/// Bytes or words lent to the desk to read. They stand at the very end of a
+/// heap allocation of exactly their size and a few more in front: a memory
+/// checker notices a read past the end, and a record is not always aligned.
+pub struct Given<T> {
+    whole: Box<[T]>,
+    copy: Box<[T]>,
     front: usize,
 }
 
-impl Given {
-    pub fn new(bytes: &[u8], random: &mut Random) -> Given {
+impl Given<u8> {
+    pub fn bytes(bytes: &[u8], random: &mut Random) -> Given<u8> {
         let front = random.between(0, 7);
-        let mut all = random.bytes(front);
-        all.extend_from_slice(bytes);
+        Given::behind(random.bytes(front), bytes)
+    }
+}
+
+impl Given<u32> {
+    pub fn words(words: &[u32], random: &mut Random) -> Given<u32> {
+        let front = random.between(0, 7);
+        let garbage = (0..front).map(|_| garbage(random)).collect();
+        Given::behind(garbage, words)
+    }
+}
+
+impl<T: Copy + PartialEq> Given<T> {
+    fn behind(front: Vec<T>, items: &[T]) -> Given<T> {
+        let whole = [&front[..], items].concat().into_boxed_slice();
         Given {
-            whole: all.clone().into_boxed_slice(),
-            copy: all.into_boxed_slice(),
-            front,
+            copy: whole.clone(),
+            whole,
+            front: front.len(),
         }
     }
 
@@ -83,9 +132,9 @@ impl Given {
         self.whole.len() - self.front
     }
 
-    pub fn pointer(&mut self) -> *const u8 {
+    pub fn pointer(&mut self) -> *const T {
         // SAFETY: `front` is at most the length of the allocation. A writing
-        // pointer is taken, so that the compiler may not take the bytes for
+        // pointer is taken, so that the compiler may not take the items for
         // unchanged.
         unsafe { self.whole.as_mut_ptr().add(self.front) }
     }

@@ -4,17 +4,35 @@
 //!
 //! It answers every operation of the desk by itself, from 01 alone and sharing
 //! no code with the desk, calls the desk's static library with the same input,
-//! and stops at the first difference. N inputs are compared for each operation
-//! (200000 if not given), after the worked cases of 01. An input depends on
-//! the seed (1 if not given), the operation and its index only, so a difference
-//! at input I is met again by `--seed S --only NAME` with N above I.
+//! and stops at the first difference. Where it can, it goes another way than
+//! the desk: the left part by division with remainder, the right part as a root
+//! of the reversed polynomial, changes by binomials, and for tiny sizes all of
+//! it by going through all g and h. Then it holds the desk against itself, as
+//! the demands 2 and 3 say.
 //!
-//! The exit code is 0 without a difference, 1 with one, or when some refusal
-//! that an operation can give was never met in 10000 inputs or more, and 2 when
-//! the arguments are wrong.
+//! N inputs are compared over all operations, after the worked cases of 01.
+//! Each operation gets its share of them, the cheaper ones more; without N it
+//! is what the operation calls usual, and with 10000 or more at least 1000, so
+//! that there may be more than N. An input depends on the seed (1 if not
+//! given), the operation and its index only, so a difference at input I is met
+//! again by `--seed S --only NAME --inputs N` with N above I.
+//!
+//! The exit code is 0 without a difference, 1 with one, or when some refusal or
+//! kind of answer that an operation can give was never met in a run of 10000
+//! inputs or more, and 2 when the arguments are wrong.
 
+mod answer;
+mod asked;
+mod change;
+mod comparison;
+mod composition;
+mod damage;
+mod decomposition;
 mod desk;
+mod division;
+mod entry;
 mod inputs;
+mod law;
 mod lent;
 mod operation;
 mod polynomial;
@@ -23,10 +41,13 @@ mod random;
 mod record;
 mod refused;
 mod residue;
+mod series;
+mod shape;
 mod tally;
+mod tiny;
 mod worked;
 
-use operation::{Entry, Run, ALL};
+use entry::{usual, Entry, Run, ALL};
 use progress::Progress;
 use std::env;
 use std::process::ExitCode;
@@ -34,7 +55,8 @@ use std::process::ExitCode;
 const USAGE: &str = "second [--inputs N] [--seed S] [--only NAME]";
 
 struct Arguments {
-    run: Run,
+    inputs: Option<u64>,
+    seed: u64,
     only: Option<String>,
 }
 
@@ -45,16 +67,16 @@ fn number(option: &str, value: &str) -> Result<u64, String> {
 }
 
 fn arguments(mut words: impl Iterator<Item = String>) -> Result<Arguments, String> {
-    let run = Run {
-        inputs: 200_000,
+    let mut found = Arguments {
+        inputs: None,
         seed: 1,
+        only: None,
     };
-    let mut found = Arguments { run, only: None };
     while let Some(option) = words.next() {
         let value = words.next().ok_or(format!("{option} wants a value"))?;
         match option.as_str() {
-            "--inputs" => found.run.inputs = number(&option, &value)?,
-            "--seed" => found.run.seed = number(&option, &value)?,
+            "--inputs" => found.inputs = Some(number(&option, &value)?),
+            "--seed" => found.seed = number(&option, &value)?,
             "--only" => found.only = Some(value),
             _ => return Err(format!("no such option: {option}")),
         }
@@ -74,24 +96,28 @@ fn chosen(only: Option<&str>) -> Result<Vec<&'static Entry>, String> {
 }
 
 fn compare(entries: &[&Entry], run: &Run) -> Result<u64, String> {
-    println!(
-        "second: seed {}, {} inputs an operation",
-        run.seed, run.inputs
-    );
+    println!("second: seed {}, {} inputs", run.seed, run.inputs);
     let chains = worked::own_arithmetic()?;
     println!("own arithmetic: {chains} worked polynomials compose from their parts");
     let mut progress = Progress::start();
     let mut inputs = 0;
     for entry in entries {
-        inputs += (entry.run)(run, &mut progress)?;
+        let share = run.share(entry, usual(entries));
+        inputs += (entry.run)(&share, &mut progress)?;
     }
     Ok(inputs)
 }
 
+fn wanted() -> Result<(Vec<&'static Entry>, Run), String> {
+    let found = arguments(env::args().skip(1))?;
+    let entries = chosen(found.only.as_deref())?;
+    let inputs = found.inputs.unwrap_or(usual(&entries));
+    let seed = found.seed;
+    Ok((entries, Run { seed, inputs }))
+}
+
 fn main() -> ExitCode {
-    let wanted = arguments(env::args().skip(1))
-        .and_then(|found| Ok((chosen(found.only.as_deref())?, found.run)));
-    let (entries, run) = match wanted {
+    let (entries, run) = match wanted() {
         Ok(wanted) => wanted,
         Err(mistake) => {
             eprintln!("second: {mistake}\n{USAGE}");

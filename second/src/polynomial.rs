@@ -1,7 +1,8 @@
 //! A polynomial is 127 coefficients, constant term first.
 
 use crate::refused::Refused;
-use crate::residue::{add, multiply};
+use crate::residue::add;
+use crate::series::product;
 use std::fmt;
 
 pub const PLACES: usize = 127;
@@ -61,26 +62,24 @@ impl Polynomial {
 
     /// The product modulo m; its degree has to be 126 at most.
     fn times(&self, other: &Polynomial, m: u32) -> Polynomial {
-        let mut product = Polynomial::ZERO;
         let (Some(n), Some(k)) = (self.degree(), other.degree()) else {
-            return product;
+            return Polynomial::ZERO;
         };
-        for i in 0..=n {
-            for j in 0..=k {
-                let term = multiply(self.0[i], other.0[j], m);
-                product.0[i + j] = add(product.0[i + j], term, m);
-            }
-        }
-        product
+        Polynomial::of(&product(&self.0[..=n], &other.0[..=k], n + k + 1, m))
+    }
+
+    /// The coefficients up to the highest that is not zero.
+    pub fn used(&self) -> &[u32] {
+        &self.0[..self.degree().map_or(0, |n| n + 1)]
     }
 }
 
 impl fmt::Display for Polynomial {
     /// Up to the highest coefficient that is not zero, so nothing is hidden.
     fn fmt(&self, out: &mut fmt::Formatter) -> fmt::Result {
-        match self.degree() {
-            None => write!(out, "all 127 coefficients zero"),
-            Some(n) => write!(out, "{:?}", &self.0[..=n]),
+        match self.used() {
+            [] => write!(out, "all 127 coefficients zero"),
+            used => write!(out, "{used:?}"),
         }
     }
 }

@@ -9,7 +9,7 @@ pub const SECOND: u32 = 2;
 
 /// The triple as the desk hands it over in C. Number 0 means answered.
 #[repr(C)]
-#[derive(Clone, Copy, Debug, PartialEq, Eq)]
+#[derive(Clone, Copy, Debug, PartialEq, Eq, PartialOrd, Ord)]
 pub struct Refused {
     pub number: u32,
     pub polynomial: u32,
@@ -24,7 +24,8 @@ impl Refused {
         Refused::about(number, NEITHER)
     }
 
-    /// Nos. 3 and 4: they name a polynomial, and their power is 0.
+    /// Nos. 3 and 4, which name a polynomial and have power 0; and the line of
+    /// No. 2, whatever its power.
     pub const fn about(number: u32, polynomial: u32) -> Refused {
         Refused {
             number,
@@ -39,6 +40,21 @@ impl Refused {
             number: 2,
             polynomial,
             power,
+        }
+    }
+
+    /// The line of the table, about this polynomial: the refusal without its
+    /// power.
+    pub const fn line(self) -> Refused {
+        Refused::about(self.number, self.polynomial)
+    }
+
+    /// The line in few letters: "No. 2 first".
+    pub fn brief(self) -> String {
+        match (self.number, self.polynomial) {
+            (0, _) => "answered".to_string(),
+            (number, NEITHER) => format!("No. {number}"),
+            (number, polynomial) => format!("No. {number} {}", word_for(polynomial)),
         }
     }
 }

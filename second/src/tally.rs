@@ -3,65 +3,112 @@
 use crate::refused::Refused;
 use std::collections::BTreeMap;
 
+/// What has to be met by a comparison of many inputs: one that did not meet it
+/// could not have failed on it.
+pub struct Wanted {
+    /// The lines of the table that can be given, in 01's order.
+    pub order: &'static [Refused],
+    /// Those that are found only when no other is due.
+    pub alone: &'static [Refused],
+    /// Pairs of `order` that cannot be due on one input.
+    pub apart: &'static [(Refused, Refused)],
+    /// Kinds of inputs and answers, in words.
+    pub kinds: &'static [&'static str],
+}
+
+impl Wanted {
+    fn lines(&self) -> Vec<Refused> {
+        let refusals = [self.order, self.alone].concat();
+        [&[Refused::ANSWERED], &refusals[..]].concat()
+    }
+
+    /// The pairs of lines that can be due on one input, the earlier one first.
+    fn together(&self) -> Vec<(Refused, Refused)> {
+        let mut pairs = Vec::new();
+        for (i, &first) in self.order.iter().enumerate() {
+            pairs.extend(self.order[i + 1..].iter().map(|&later| (first, later)));
+        }
+        pairs.retain(|pair| !self.apart.contains(pair));
+        pairs
+    }
+}
+
 #[derive(Default)]
 pub struct Tally {
     pub inputs: u64,
-    /// By refusal number; 0 is "answered".
-    given: BTreeMap<u32, u64>,
+    /// By line of the table; number 0 is "answered".
+    given: BTreeMap<Refused, u64>,
     /// Inputs on which two refusals were due at once, the one given by 01's
     /// order before the other. Only on these does the order matter.
-    together: BTreeMap<(u32, u32), u64>,
+    together: BTreeMap<(Refused, Refused), u64>,
+    kinds: BTreeMap<&'static str, u64>,
+}
+
+fn times<K: Ord>(counts: &BTreeMap<K, u64>, key: &K) -> u64 {
+    counts.get(key).copied().unwrap_or(0)
 }
 
 impl Tally {
-    pub fn count(&mut self, given: Refused, due: &[Refused]) {
+    pub fn count(&mut self, given: Refused, due: &[Refused], kinds: &[&'static str]) {
         self.inputs += 1;
-        *self.given.entry(given.number).or_default() += 1;
+        *self.given.entry(given.line()).or_default() += 1;
         for (i, first) in due.iter().enumerate() {
             for later in &due[i + 1..] {
-                let pair = (first.number, later.number);
+                let pair = (first.line(), later.line());
                 *self.together.entry(pair).or_default() += 1;
             }
         }
-    }
-
-    fn given_with(&self, number: u32) -> u64 {
-        self.given.get(&number).copied().unwrap_or(0)
-    }
-
-    fn due_together(&self, pair: (u32, u32)) -> u64 {
-        self.together.get(&pair).copied().unwrap_or(0)
-    }
-
-    /// What the operation can give and was never seen: a comparison that did
-    /// not meet it could not have failed on it.
-    pub fn never_met(&self, refusals: &[u32], together: &[(u32, u32)]) -> Vec<String> {
-        let mut missing = Vec::new();
-        if self.given_with(0) == 0 {
-            missing.push("an answer".to_string());
+        for kind in kinds {
+            *self.kinds.entry(kind).or_default() += 1;
         }
-        for &number in refusals {
-            if self.given_with(number) == 0 {
-                missing.push(format!("No. {number}"));
-            }
-        }
-        for &(first, later) in together {
-            if self.due_together((first, later)) == 0 {
-                missing.push(format!("No. {first} where No. {later} was due too"));
-            }
-        }
-        missing
     }
 
-    pub fn report(&self, name: &str, refusals: &[u32], together: &[(u32, u32)]) {
+    pub fn never_met(&self, wanted: &Wanted) -> Vec<String> {
+        let given = |line: &Refused| times(&self.given, line);
+        let lines = wanted.lines().into_iter().filter(|line| given(line) == 0);
+        let both = |pair: &(Refused, Refused)| times(&self.together, pair);
+        let pairs = wanted.together().into_iter().filter(|pair| both(pair) == 0);
+        let kinds = wanted
+            .kinds
+            .iter()
+            .filter(|kind| times(&self.kinds, kind) == 0);
+        lines
+            .map(Refused::brief)
+            .chain(pairs.map(|(a, b)| format!("{} where {} was due too", a.brief(), b.brief())))
+            .chain(kinds.map(|kind| kind.to_string()))
+            .collect()
+    }
+
+    pub fn report(&self, name: &str, wanted: &Wanted) {
         println!("{name}: {} inputs compared, no difference", self.inputs);
-        println!("{name}:   answered {}", self.given_with(0));
-        for &number in refusals {
-            println!("{name}:   No. {number} {}", self.given_with(number));
+        let lines = wanted.lines();
+        let given = lines
+            .iter()
+            .map(|line| (line.brief(), times(&self.given, line)));
+        println!("{name}:   {}", listed(given));
+        if let Some((pairs, fewest)) = self.order_tested(wanted) {
+            println!(
+                "{name}:   pairs of refusals due at once: {pairs}, each {fewest} times or more"
+            );
         }
-        for &(first, later) in together {
-            let inputs = self.due_together((first, later));
-            println!("{name}:   No. {first} before No. {later}, both due {inputs}");
+        if !wanted.kinds.is_empty() {
+            let kinds = wanted.kinds.iter();
+            let met = kinds.map(|kind| (kind.to_string(), times(&self.kinds, kind)));
+            println!("{name}:   {}", listed(met));
         }
     }
+
+    /// The number of pairs, and how often the rarest of them was due.
+    fn order_tested(&self, wanted: &Wanted) -> Option<(usize, u64)> {
+        let pairs = wanted.together();
+        let fewest = pairs.iter().map(|pair| times(&self.together, pair)).min()?;
+        Some((pairs.len(), fewest))
+    }
+}
+
+fn listed(counts: impl Iterator<Item = (String, u64)>) -> String {
+    let items: Vec<_> = counts
+        .map(|(what, times)| format!("{what} {times}"))
+        .collect();
+    items.join(", ")
 }

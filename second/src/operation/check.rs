@@ -1,58 +1,70 @@
 //! Check a record, which gives its modulus, polynomial and degree.
 
-use super::{Answer, Operation, Own, Worked};
-use crate::desk::{self, Checked};
-use crate::inputs::{self, LOOK_SMALL};
+use super::{Operation, Own, Worked};
+use crate::answer::Checked;
+use crate::asked::Asked;
+use crate::damage;
+use crate::desk;
+use crate::inputs;
 use crate::polynomial::{Polynomial, PLACES, TOP_DEGREE};
 use crate::random::Random;
 use crate::record::{self, Record, RECORD_BYTES};
 use crate::refused::{Refused, FIRST};
 use crate::residue::TOP_MODULUS;
+use crate::tally::Wanted;
+use crate::tiny::choose;
 use crate::worked;
 
 pub struct Check;
+
+/// The record ends too early.
+const SHORT: Refused = Refused::plain(9);
+
+const ORDER: &[Refused] = &[
+    SHORT,
+    Refused::plain(1),
+    Refused::about(2, FIRST),
+    Refused::about(3, FIRST),
+    Refused::about(4, FIRST),
+];
 
 impl Operation for Check {
     type Input = Vec<u8>;
     type Answer = Checked;
 
     const NAME: &'static str = "check";
-    const REFUSALS: &'static [u32] = &[9, 1, 2, 3, 4];
-    const TOGETHER: &'static [(u32, u32)] = &[
-        (9, 1),
-        (9, 2),
-        (9, 3),
-        (9, 4),
-        (1, 2),
-        (1, 3),
-        (1, 4),
-        (2, 3),
-        (2, 4),
-        (3, 4),
-    ];
+    const WANTED: Wanted = Wanted {
+        order: ORDER,
+        alone: &[],
+        apart: &[],
+        kinds: &[],
+    };
+
+    fn usual() -> u64 {
+        200_000
+    }
 
     fn worked() -> Vec<Worked<Vec<u8>, Checked>> {
         worked_cases()
     }
 
+    /// At first every second input is the next of the edges, and then of the
+    /// short records.
     fn input(index: u64, random: &mut Random) -> Vec<u8> {
-        if index < EDGES {
-            edge(index).bytes()
-        } else if index < EDGES + CUTS {
-            cut(index - EDGES, random)
-        } else {
+        let listed = index / 2;
+        if index % 2 == 1 || listed >= EDGES + CUTS {
             scattered(random)
+        } else if listed < EDGES {
+            edge(listed).bytes()
+        } else {
+            cut(listed - EDGES, random)
         }
     }
 
     fn own(bytes: &Vec<u8>) -> Own<Checked> {
         let record = Record::read_padded(bytes);
         let due = refusals_due(bytes.len(), &record);
-        let answer = match due.first() {
-            Some(&refused) => refused_with(refused),
-            None => taken(&record),
-        };
-        Own { answer, due }
+        Own::new(due, refused_with, || taken(&record))
     }
 
     fn desk(bytes: &Vec<u8>, random: &mut Random) -> Result<Checked, String> {
@@ -61,21 +73,6 @@ impl Operation for Check {
 
     fn show(bytes: &Vec<u8>) -> String {
         record::show(bytes)
-    }
-}
-
-impl Answer for Checked {
-    fn refused(&self) -> Refused {
-        self.refused
-    }
-
-    fn lines(&self) -> Vec<(&'static str, String)> {
-        vec![
-            ("refusal", self.refused.to_string()),
-            ("modulus", self.modulus.to_string()),
-            ("degree", self.degree.to_string()),
-            ("f", self.f.to_string()),
-        ]
     }
 }
 
@@ -89,12 +86,10 @@ impl Answer for Checked {
 fn refusals_due(count: usize, record: &Record) -> Vec<Refused> {
     let mut due = Vec::new();
     if count < RECORD_BYTES {
-        due.push(Refused::plain(9));
+        due.push(SHORT);
     }
-    if record.modulus < 2 || record.modulus > TOP_MODULUS {
-        due.push(Refused::plain(1));
-    }
-    due.extend(record.f.refusals_due(record.modulus, FIRST));
+    let asked = Asked::one(record.modulus, record.f.clone());
+    due.extend(asked.refusals_due());
     due
 }
 
@@ -226,13 +221,6 @@ const EDGE_POWERS: u64 = 5;
 const EDGE_FURTHER: u64 = EDGE_VALUES * EDGE_POWERS + 1;
 const EDGES: u64 = (EDGE_MODULI.len() * EDGE_DEGREES.len()) as u64 * EDGE_LEADINGS * EDGE_FURTHER;
 
-/// Takes a choice out of `of` from the number of a combination.
-fn choose(combination: &mut u64, of: u64) -> u64 {
-    let choice = *combination % of;
-    *combination /= of;
-    choice
-}
-
 fn edge(mut combination: u64) -> Record {
     let left = &mut combination;
     let m = EDGE_MODULI[choose(left, EDGE_MODULI.len() as u64) as usize];
@@ -334,117 +322,27 @@ fn shortened(mut bytes: Vec<u8>, random: &mut Random) -> Vec<u8> {
 
 // Damage, one kind for each line of the table.
 
-#[derive(Clone, Copy)]
-enum Damage {
-    Degree,
-    Leading,
-    Modulus,
-    Coefficient,
-    Short,
-}
-
-/// In the order in which several are done: the coefficients that offend are
-/// set after the modulus they offend against, the leading coefficient after
-/// the degree is settled.
-const DAMAGES: [Damage; 5] = [
-    Damage::Degree,
-    Damage::Leading,
-    Damage::Modulus,
-    Damage::Coefficient,
-    Damage::Short,
-];
-
 fn one_damage(random: &mut Random) -> Vec<u8> {
-    let damage = random.pick(&DAMAGES);
-    damaged(&[damage], random)
+    let lines = damage::one_of(ORDER, random);
+    damaged(&lines, random)
 }
 
 /// Two or more kinds at once, so that the order of the tests matters.
 fn several_damages(random: &mut Random) -> Vec<u8> {
-    let mut chosen = Vec::new();
-    while chosen.len() < 2 {
-        let choice = random.below(1 << DAMAGES.len());
-        let taken = |&i: &usize| choice >> i & 1 == 1;
-        chosen = (0..DAMAGES.len())
-            .filter(taken)
-            .map(|i| DAMAGES[i])
-            .collect();
-    }
-    damaged(&chosen, random)
+    let lines = damage::several(ORDER, random);
+    damaged(&lines, random)
 }
 
-fn damaged(damages: &[Damage], random: &mut Random) -> Vec<u8> {
-    let mut record = good(random);
-    let mut short = false;
-    for damage in damages {
-        match damage {
-            Damage::Degree => lower_degree(&mut record, random),
-            Damage::Leading => spoil_leading(&mut record, random),
-            Damage::Modulus => spoil_modulus(&mut record, random),
-            Damage::Coefficient => spoil_coefficients(&mut record, random),
-            Damage::Short => short = true,
-        }
-    }
-    if short {
+fn damaged(lines: &[Refused], random: &mut Random) -> Vec<u8> {
+    let Record { modulus, f } = good(random);
+    let mut asked = Asked::one(modulus, f);
+    damage::spoil(&mut asked, lines, random);
+    let record = Record {
+        modulus: asked.m,
+        f: asked.first().clone(),
+    };
+    if lines.contains(&SHORT) {
         return shortened(record.bytes(), random);
     }
     record.bytes()
-}
-
-/// For No. 3: all zero, a constant, or a linear polynomial.
-fn lower_degree(record: &mut Record, random: &mut Random) {
-    let kept = random.between(0, 2);
-    record.f.0[kept..].fill(0);
-    // Often a 1 leads, so that No. 4 is not due as well.
-    if kept > 0 && random.once_in(2) {
-        record.f.0[kept - 1] = 1;
-    }
-}
-
-/// For No. 4: another leading coefficient, below m wherever m leaves room.
-fn spoil_leading(record: &mut Record, random: &mut Random) {
-    let Some(n) = record.f.degree() else { return };
-    let m = record.modulus;
-    let wanted = match random.below(4) {
-        0 => 2,
-        1 => m - 1,
-        2 => random.pick(&LOOK_SMALL),
-        _ => inputs::residue(random, m),
-    };
-    let fits = wanted > 1 && wanted < m;
-    record.f.0[n] = if fits { wanted } else { 2 };
-}
-
-/// For No. 1.
-fn spoil_modulus(record: &mut Record, random: &mut Random) {
-    let above = TOP_MODULUS + 1;
-    let any_above = above + random.below(u64::from(above)) as u32;
-    record.modulus = random.pick(&[0, 1, above, above + 1, u32::MAX, any_above]);
-}
-
-/// For No. 2: one to four coefficients, so that it matters which is lowest.
-fn spoil_coefficients(record: &mut Record, random: &mut Random) {
-    let n = record.f.degree().unwrap_or(0);
-    for _ in 0..random.between(1, 4) {
-        let power = offending_power(n, random);
-        record.f.0[power] = offending_value(record.modulus, random);
-    }
-}
-
-/// At the ends, below, at and above the degree.
-fn offending_power(n: usize, random: &mut Random) -> usize {
-    match random.below(8) {
-        0 => 0,
-        1 => 1,
-        2 => TOP_DEGREE,
-        3 => n,
-        4 => random.between(0, n),
-        5 | 6 => random.between((n + 1).min(TOP_DEGREE), TOP_DEGREE),
-        _ => random.between(0, TOP_DEGREE),
-    }
-}
-
-fn offending_value(m: u32, random: &mut Random) -> u32 {
-    let any = u64::from(m) + random.below((1 << 32) - u64::from(m));
-    random.pick(&[m, m.saturating_add(1), u32::MAX, any as u32])
 }

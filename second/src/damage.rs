@@ -1,0 +1,139 @@
+//! Damage to good input, one kind for each line of the table, and several at
+//! once, so that the order of the tests matters.
+
+use crate::asked::Asked;
+use crate::inputs::{self, LOOK_SMALL};
+use crate::polynomial::{Polynomial, TOP_DEGREE};
+use crate::random::Random;
+use crate::refused::{Refused, FIRST};
+use crate::residue::TOP_MODULUS;
+
+/// How often the first inputs go through all lines and all pairs of lines:
+/// chance may spoil a combination, hardly eight times.
+const ROUNDS: usize = 8;
+
+/// The lines that input number `index` is to make due: first, every line alone
+/// and with every other, then any number of them; half the time none.
+///
+/// What is wanted need not come true: no coefficient is both 0 and not 1.
+pub fn wanted(lines: &[Refused], index: u64, random: &mut Random) -> Vec<Refused> {
+    let combinations = alone_and_in_pairs(lines);
+    let place = index as usize;
+    if place < ROUNDS * combinations.len() {
+        return combinations[place % combinations.len()].clone();
+    }
+    match random.below(16) {
+        0..=8 => Vec::new(),
+        9..=12 => one_of(lines, random),
+        _ => several(lines, random),
+    }
+}
+
+fn alone_and_in_pairs(lines: &[Refused]) -> Vec<Vec<Refused>> {
+    let mut combinations = Vec::new();
+    for (i, &line) in lines.iter().enumerate() {
+        combinations.push(vec![line]);
+        combinations.extend(lines[..i].iter().map(|&earlier| vec![earlier, line]));
+    }
+    combinations
+}
+
+pub fn one_of(lines: &[Refused], random: &mut Random) -> Vec<Refused> {
+    vec![random.pick(lines)]
+}
+
+/// Two or more of them, where there are as many.
+pub fn several(lines: &[Refused], random: &mut Random) -> Vec<Refused> {
+    let at_least = lines.len().min(2);
+    loop {
+        let chosen: Vec<_> = lines
+            .iter()
+            .filter(|_| random.once_in(2))
+            .copied()
+            .collect();
+        if chosen.len() >= at_least {
+            return chosen;
+        }
+    }
+}
+
+/// Makes those of the lines due that are about m and the polynomials.
+///
+/// The coefficients that offend are set after the modulus they offend against,
+/// the leading coefficient after the degree is settled.
+pub fn spoil(asked: &mut Asked, lines: &[Refused], random: &mut Random) {
+    for (which, f) in (FIRST..).zip(&mut asked.polynomials) {
+        if lines.contains(&Refused::about(3, which)) {
+            lower_degree(f, random);
+        }
+        if lines.contains(&Refused::about(4, which)) {
+            spoil_leading(f, asked.m, random);
+        }
+    }
+    if lines.contains(&Refused::plain(1)) {
+        asked.m = spoiled_modulus(random);
+    }
+    for (which, f) in (FIRST..).zip(&mut asked.polynomials) {
+        if lines.contains(&Refused::about(2, which)) {
+            spoil_coefficients(f, asked.m, random);
+        }
+    }
+}
+
+/// For No. 3: all zero, a constant, or a linear polynomial.
+fn lower_degree(f: &mut Polynomial, random: &mut Random) {
+    let kept = random.between(0, 2);
+    f.0[kept..].fill(0);
+    // Often a 1 leads, so that No. 4 is not due as well.
+    if kept > 0 && random.once_in(2) {
+        f.0[kept - 1] = 1;
+    }
+}
+
+/// For No. 4: another leading coefficient, below m wherever m leaves room.
+fn spoil_leading(f: &mut Polynomial, m: u32, random: &mut Random) {
+    let Some(n) = f.degree() else { return };
+    let wanted = match random.below(4) {
+        0 => 2,
+        1 => m - 1,
+        2 => random.pick(&LOOK_SMALL),
+        _ => inputs::residue(random, m),
+    };
+    let fits = wanted > 1 && wanted < m;
+    f.0[n] = if fits { wanted } else { 2 };
+}
+
+/// For No. 1.
+pub fn spoiled_modulus(random: &mut Random) -> u32 {
+    let above = TOP_MODULUS + 1;
+    let any_above = above + random.below(u64::from(above)) as u32;
+    random.pick(&[0, 1, above, above + 1, u32::MAX, any_above])
+}
+
+/// For No. 2: one to four coefficients, so that it matters which is lowest.
+fn spoil_coefficients(f: &mut Polynomial, m: u32, random: &mut Random) {
+    let n = f.degree().unwrap_or(0);
+    for _ in 0..random.between(1, 4) {
+        let power = offending_power(n, random);
+        f.0[power] = offending_value(m, random);
+    }
+}
+
+/// At the ends, below, at and above the degree.
+fn offending_power(n: usize, random: &mut Random) -> usize {
+    match random.below(8) {
+        0 => 0,
+        1 => 1,
+        2 => TOP_DEGREE,
+        3 => n,
+        4 => random.between(0, n),
+        5 | 6 => random.between((n + 1).min(TOP_DEGREE), TOP_DEGREE),
+        _ => random.between(0, TOP_DEGREE),
+    }
+}
+
+/// m or more; for a modulus of 0 that is any value.
+pub fn offending_value(m: u32, random: &mut Random) -> u32 {
+    let any = u64::from(m) + random.below((1 << 32) - u64::from(m));
+    random.pick(&[m, m.saturating_add(1), u32::MAX, any as u32])
+}

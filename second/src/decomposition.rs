@@ -1,0 +1,110 @@
+//! Left part, pair and chain by this program's own methods: the left part by
+//! division with remainder, the right part as a root of the reversed
+//! polynomial. Every polynomial here is taken, that is not refused by 1 to 4.
+
+use crate::division::divide;
+use crate::polynomial::Polynomial;
+use crate::series::root;
+
+/// g and h, the left part and the right one.
+pub type Pair = (Polynomial, Polynomial);
+
+/// The g with f = g(h), if there is one, for any monic h whose degree divides
+/// that of f.
+///
+/// f is written to the base h: f = d_0 + h·(d_1 + h·(d_2 + ..)), each d of a
+/// lower degree than h. There is one way only to write it so, and f is some
+/// g(h) exactly if every d is a constant: then the d are the coefficients of g.
+pub fn left_part(f: &Polynomial, h: &Polynomial, m: u32) -> Option<Polynomial> {
+    let mut g = Polynomial::ZERO;
+    let mut rest = f.used().to_vec();
+    let mut place = 0;
+    while !rest.is_empty() {
+        let (quotient, digit) = divide(&rest, h.used(), m);
+        if digit.iter().skip(1).any(|&c| c != 0) {
+            return None;
+        }
+        g.0[place] = digit.first().copied().unwrap_or(0);
+        rest = quotient;
+        place += 1;
+    }
+    Some(g)
+}
+
+/// The only h with h(0) = 0 that can be the right part of f at r.
+///
+/// f = g(h) and h^r have the same coefficients from x^n down to x^(n-s+1), for
+/// the next power of h in g has degree n - s. Read backwards, from the highest
+/// coefficient on, f and h are series that begin with 1, and so the first s
+/// coefficients of h are those of the r-th root of f.
+fn right_part(f: &Polynomial, r: usize, s: usize, m: u32) -> Polynomial {
+    let backwards: Vec<u32> = f.used().iter().rev().copied().collect();
+    let mut h = Polynomial::ZERO;
+    for (k, &c) in root(&backwards, r, s, m).iter().enumerate() {
+        h.0[s - k] = c;
+    }
+    h
+}
+
+/// The normal pair of f at r, if there is one; r divides the degree of f and
+/// has an inverse modulo m.
+pub fn pair(f: &Polynomial, r: usize, m: u32) -> Option<Pair> {
+    let n = f.degree().expect("f is taken");
+    let h = right_part(f, r, n / r, m);
+    let g = left_part(f, &h, m)?;
+    // "The forced pair may still fail to compose to f": the division has seen
+    // to it. That it has is worth the time here, where nothing is proved.
+    assert!(g.compose(&h, m).as_ref() == Some(f), "own pair is no pair");
+    Some((g, h))
+}
+
+/// A complete chain.
+#[derive(Debug, PartialEq, Eq)]
+pub struct Chain {
+    /// Left to right.
+    pub parts: Vec<Polynomial>,
+    pub tries: usize,
+}
+
+impl Chain {
+    /// "The price of a chain is the sum over its parts", that of a polynomial
+    /// its degree.
+    pub fn price(&self) -> usize {
+        self.parts.iter().filter_map(Polynomial::degree).sum()
+    }
+}
+
+/// The chain of f, where `pair` gives the normal pair at r if there is one.
+///
+/// "Try s = 2, 3, .. up to n/2, each s that divides n, the last included. At
+/// the first s where f splits, h is the rightmost part, and the same is done
+/// afresh with g, from s = 2 again."
+pub fn chain(f: &Polynomial, pair: impl Fn(&Polynomial, usize) -> Option<Pair>) -> Chain {
+    let mut rest = f.clone();
+    let mut from_the_right = Vec::new();
+    let mut tries = 0;
+    while let Some((g, h)) = first_split(&rest, &pair, &mut tries) {
+        from_the_right.push(h);
+        rest = g;
+    }
+    from_the_right.push(rest);
+    from_the_right.reverse();
+    Chain {
+        parts: from_the_right,
+        tries,
+    }
+}
+
+fn first_split(
+    f: &Polynomial,
+    pair: impl Fn(&Polynomial, usize) -> Option<Pair>,
+    tries: &mut usize,
+) -> Option<Pair> {
+    let n = f.degree().expect("a part has a degree");
+    let right_degrees = (2..=n / 2).filter(|s| n.is_multiple_of(*s));
+    let mut tested = right_degrees.map(|s| {
+        *tries += 1;
+        pair(f, n / s)
+    });
+    tested.find_map(|found| found)
+}

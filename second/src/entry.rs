@@ -1,0 +1,90 @@
+//! The list of all that is compared, and how many inputs each gets.
+
+use crate::law::{self, changed_chain, changed_split, round_trip};
+use crate::operation::{
+    self, chain, change_pair, change_polynomial, check, combine, compose, left_part, part, split,
+    tiny_chain, tiny_left_part, tiny_split, undo,
+};
+use crate::progress::Progress;
+use crate::tally::{Tally, Wanted};
+
+/// From this many inputs on, all that can be met has to have been met.
+const ENOUGH: u64 = 10_000;
+
+/// So many inputs each operation gets then, whatever its share: they suffice to
+/// meet everything.
+const FEWEST: u64 = 1_000;
+
+/// How much to compare.
+pub struct Run {
+    pub seed: u64,
+    /// Over all operations.
+    pub inputs: u64,
+}
+
+/// An operation, or a law over several, whose types are forgotten, so that all
+/// stand in one list.
+pub struct Entry {
+    pub name: &'static str,
+    /// The inputs it gets in a usual run.
+    pub usual: fn() -> u64,
+    pub run: fn(&Share, &mut Progress) -> Result<u64, String>,
+}
+
+/// What one entry has to do of a run.
+pub struct Share {
+    pub seed: u64,
+    pub inputs: u64,
+    /// Whether all has to be met.
+    pub complete: bool,
+}
+
+pub const ALL: &[Entry] = &[
+    operation::entry::<check::Check>(),
+    operation::entry::<compose::Compose>(),
+    operation::entry::<left_part::LeftPart>(),
+    operation::entry::<tiny_left_part::TinyLeftPart>(),
+    operation::entry::<split::Split>(),
+    operation::entry::<tiny_split::TinySplit>(),
+    operation::entry::<change_polynomial::ChangePolynomial>(),
+    operation::entry::<change_pair::ChangePair>(),
+    operation::entry::<combine::Combine>(),
+    operation::entry::<undo::Undo>(),
+    operation::entry::<chain::Chain>(),
+    operation::entry::<tiny_chain::TinyChain>(),
+    operation::entry::<part::Part>(),
+    law::entry::<round_trip::RoundTrip>(),
+    law::entry::<changed_split::ChangedSplit>(),
+    law::entry::<changed_chain::ChangedChain>(),
+];
+
+/// The inputs of a usual run of these entries.
+pub fn usual(entries: &[&Entry]) -> u64 {
+    entries.iter().map(|entry| (entry.usual)()).sum()
+}
+
+impl Run {
+    /// The entry's share, where all entries together usually get `of` inputs.
+    pub fn share(&self, entry: &Entry, of: u64) -> Share {
+        let product = u128::from(self.inputs) * u128::from((entry.usual)());
+        let inputs = product.div_ceil(u128::from(of)) as u64;
+        let complete = self.inputs >= ENOUGH;
+        Share {
+            seed: self.seed,
+            inputs: if complete { inputs.max(FEWEST) } else { inputs },
+            complete,
+        }
+    }
+}
+
+impl Share {
+    /// Says what was met; an error is about what was not and had to be.
+    pub fn conclude(&self, name: &str, tally: &Tally, wanted: &Wanted) -> Result<(), String> {
+        tally.report(name, wanted);
+        let missing = tally.never_met(wanted);
+        if self.complete && !missing.is_empty() {
+            return Err(format!("{name}: never met {}", missing.join(", ")));
+        }
+        Ok(())
+    }
+}

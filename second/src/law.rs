@@ -1,0 +1,70 @@
+//! What the demands say of several operations together: the desk is asked in
+//! two ways and has to answer the same. Beside the operations this adds that
+//! the desk is held against itself, whatever the second program believes.
+
+pub mod changed_chain;
+pub mod changed_split;
+pub mod round_trip;
+
+use crate::answer::Answer;
+use crate::comparison::{agree, By, Where};
+use crate::entry::{Entry, Share};
+use crate::progress::Progress;
+use crate::random::Random;
+use crate::tally::{Tally, Wanted};
+
+pub trait Law {
+    type Input;
+    type Answer: Answer;
+
+    const NAME: &'static str;
+    const WANTED: Wanted;
+    /// The two ways in words.
+    const ONE_WAY: &'static str;
+    const OTHER_WAY: &'static str;
+
+    /// The inputs in a usual run: the cheaper they are, the more.
+    fn usual() -> u64;
+    fn input(index: u64, random: &mut Random) -> Self::Input;
+    fn one_way(input: &Self::Input, random: &mut Random) -> Result<Self::Answer, String>;
+    fn other_way(input: &Self::Input, random: &mut Random) -> Result<Self::Answer, String>;
+    /// Which of the wanted kinds this is.
+    fn kinds(input: &Self::Input, answer: &Self::Answer) -> Vec<&'static str>;
+    fn show(input: &Self::Input) -> String;
+}
+
+pub const fn entry<L: Law>() -> Entry {
+    Entry {
+        name: L::NAME,
+        usual: L::usual,
+        run: run::<L>,
+    }
+}
+
+fn run<L: Law>(share: &Share, progress: &mut Progress) -> Result<u64, String> {
+    let mut tally = Tally::default();
+    progress.begin(L::NAME, share.inputs);
+    for index in 0..share.inputs {
+        one_input::<L>(share.seed, index, &mut tally)?;
+        progress.show(index + 1);
+    }
+    progress.end();
+    share.conclude(L::NAME, &tally, &L::WANTED)?;
+    Ok(tally.inputs)
+}
+
+fn one_input<L: Law>(seed: u64, index: u64, tally: &mut Tally) -> Result<(), String> {
+    let mut random = Random::for_input(seed, L::NAME, index);
+    let input = L::input(index, &mut random);
+    let at = Where {
+        name: L::NAME,
+        place: format!("seed {seed}, input {index}"),
+        input: &|| L::show(&input),
+    };
+    let trespass = |what: String| format!("DIFFERENCE in {}, {}\n{what}", at.name, at.place);
+    let one = L::one_way(&input, &mut random).map_err(trespass)?;
+    let other = L::other_way(&input, &mut random);
+    agree(&at, By(L::ONE_WAY, &one), By(L::OTHER_WAY, other))?;
+    tally.count(one.refused(), &[], &L::kinds(&input, &one));
+    Ok(())
+}
