@@ -15,7 +15,8 @@ const ROUNDS: usize = 8;
 /// The lines that input number `index` is to make due: first, every line alone
 /// and with every other, then any number of them; half the time none.
 ///
-/// What is wanted need not come true: no coefficient is both 0 and not 1.
+/// What is wanted need not come true: a polynomial that is all zero has no
+/// leading coefficient to spoil.
 pub fn wanted(lines: &[Refused], index: u64, random: &mut Random) -> Vec<Refused> {
     let combinations = alone_and_in_pairs(lines);
     let place = index as usize;

@@ -31,6 +31,12 @@ pub fn left_part(f: &Polynomial, h: &Polynomial, m: u32) -> Option<Polynomial> {
     Some(g)
 }
 
+/// The degrees that a part of a pair may have, from the smallest up: d divides
+/// n, and d and n/d are at least 2.
+pub fn part_degrees(n: usize) -> impl Iterator<Item = usize> {
+    (2..=n / 2).filter(move |d| n.is_multiple_of(*d))
+}
+
 /// The only h with h(0) = 0 that can be the right part of f at r.
 ///
 /// f = g(h) and h^r have the same coefficients from x^n down to x^(n-s+1), for
@@ -101,10 +107,8 @@ fn first_split(
     tries: &mut usize,
 ) -> Option<Pair> {
     let n = f.degree().expect("a part has a degree");
-    let right_degrees = (2..=n / 2).filter(|s| n.is_multiple_of(*s));
-    let mut tested = right_degrees.map(|s| {
+    part_degrees(n).find_map(|s| {
         *tries += 1;
         pair(f, n / s)
-    });
-    tested.find_map(|found| found)
+    })
 }

@@ -74,6 +74,14 @@ pub const LOOK_SMALL: [u32; 7] = [
 
 const DEGREES: [usize; 10] = [2, 3, 4, 6, 12, 62, 63, 64, 125, TOP_DEGREE];
 
+/// Takes a choice out of `of` from the number of a combination, for inputs that
+/// go through all combinations.
+pub fn choose(combination: &mut u64, of: u64) -> u64 {
+    let choice = *combination % of;
+    *combination /= of;
+    choice
+}
+
 // Moduli.
 
 /// m from 2 to 2,147,483,647.

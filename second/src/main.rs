@@ -1,6 +1,6 @@
 //! The independent second program of 01.
 //!
-//!     second [--inputs N] [--seed S] [--only NAME]
+//!     second [--inputs N] [--seed S] [--only NAME] [--list PROGRAM]
 //!
 //! It answers every operation of the desk by itself, from 01 alone and sharing
 //! no code with the desk, calls the desk's static library with the same input,
@@ -16,6 +16,9 @@
 //! that there may be more than N. An input depends on the seed (1 if not
 //! given), the operation and its index only, so a difference at input I is met
 //! again by `--seed S --only NAME --inputs N` with N above I.
+//!
+//! With a PROGRAM it compares whole listings too: the program gets generated
+//! files of records, and what it prints is compared to the last byte.
 //!
 //! The exit code is 0 without a difference, 1 with one, or when some refusal or
 //! kind of answer that an operation can give was never met in a run of 10000
@@ -34,6 +37,7 @@ mod entry;
 mod inputs;
 mod law;
 mod lent;
+mod listing;
 mod operation;
 mod polynomial;
 mod progress;
@@ -52,12 +56,13 @@ use progress::Progress;
 use std::env;
 use std::process::ExitCode;
 
-const USAGE: &str = "second [--inputs N] [--seed S] [--only NAME]";
+const USAGE: &str = "second [--inputs N] [--seed S] [--only NAME] [--list PROGRAM]";
 
 struct Arguments {
     inputs: Option<u64>,
     seed: u64,
     only: Option<String>,
+    list: Option<String>,
 }
 
 fn number(option: &str, value: &str) -> Result<u64, String> {
@@ -71,6 +76,7 @@ fn arguments(mut words: impl Iterator<Item = String>) -> Result<Arguments, Strin
         inputs: None,
         seed: 1,
         only: None,
+        list: None,
     };
     while let Some(option) = words.next() {
         let value = words.next().ok_or(format!("{option} wants a value"))?;
@@ -78,6 +84,7 @@ fn arguments(mut words: impl Iterator<Item = String>) -> Result<Arguments, Strin
             "--inputs" => found.inputs = Some(number(&option, &value)?),
             "--seed" => found.seed = number(&option, &value)?,
             "--only" => found.only = Some(value),
+            "--list" => found.list = Some(value),
             _ => return Err(format!("no such option: {option}")),
         }
     }
@@ -95,7 +102,7 @@ fn chosen(only: Option<&str>) -> Result<Vec<&'static Entry>, String> {
     Ok(entries)
 }
 
-fn compare(entries: &[&Entry], run: &Run) -> Result<u64, String> {
+fn compare(Wanted { entries, run, list }: &Wanted) -> Result<u64, String> {
     println!("second: seed {}, {} inputs", run.seed, run.inputs);
     let chains = worked::own_arithmetic()?;
     println!("own arithmetic: {chains} worked polynomials compose from their parts");
@@ -105,26 +112,41 @@ fn compare(entries: &[&Entry], run: &Run) -> Result<u64, String> {
         let share = run.share(entry, usual(entries));
         inputs += (entry.run)(&share, &mut progress)?;
     }
+    if let Some(program) = list {
+        let records = listing::compare(program, run.seed, &mut progress)?;
+        println!("listing: {records} records listed by {program}, no difference");
+        inputs += records;
+    }
     Ok(inputs)
 }
 
-fn wanted() -> Result<(Vec<&'static Entry>, Run), String> {
+struct Wanted {
+    entries: Vec<&'static Entry>,
+    run: Run,
+    list: Option<String>,
+}
+
+fn wanted() -> Result<Wanted, String> {
     let found = arguments(env::args().skip(1))?;
     let entries = chosen(found.only.as_deref())?;
     let inputs = found.inputs.unwrap_or(usual(&entries));
     let seed = found.seed;
-    Ok((entries, Run { seed, inputs }))
+    Ok(Wanted {
+        entries,
+        run: Run { seed, inputs },
+        list: found.list,
+    })
 }
 
 fn main() -> ExitCode {
-    let (entries, run) = match wanted() {
+    let wanted = match wanted() {
         Ok(wanted) => wanted,
         Err(mistake) => {
             eprintln!("second: {mistake}\n{USAGE}");
             return ExitCode::from(2);
         }
     };
-    match compare(&entries, &run) {
+    match compare(&wanted) {
         Ok(inputs) => {
             println!("second: {inputs} inputs compared, no difference");
             ExitCode::SUCCESS

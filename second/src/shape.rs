@@ -10,7 +10,6 @@ use crate::random::Random;
 use crate::residue::{add, multiply, subtract};
 use crate::series::power;
 
-#[derive(Clone)]
 pub enum Shape {
     /// Nothing is planted.
     Any(usize),
@@ -84,7 +83,7 @@ fn two_orders(random: &mut Random) -> Shape {
     Shape::TwoOrders { d, k, p_degree }
 }
 
-pub fn pair(random: &mut Random) -> Shape {
+fn pair(random: &mut Random) -> Shape {
     let (r, s) = inputs::two_degrees(random);
     Shape::Planted(vec![r, s])
 }

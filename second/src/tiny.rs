@@ -2,7 +2,8 @@
 //! small m, and their pairs and left parts by going through all g and all h. No
 //! theorem stands behind these answers, only the definition of a pair.
 
-use crate::decomposition::Pair;
+use crate::decomposition::{part_degrees, Pair};
+use crate::inputs::choose;
 use crate::polynomial::Polynomial;
 use crate::residue::common_factor;
 use std::collections::HashMap;
@@ -69,19 +70,6 @@ pub fn monic((m, n): Size, mut number: u64) -> Polynomial {
 
 fn all(size: Size) -> impl Iterator<Item = Polynomial> {
     (0..count(size)).map(move |number| monic(size, number))
-}
-
-/// Takes a choice out of `of` from the number of a combination.
-pub fn choose(combination: &mut u64, of: u64) -> u64 {
-    let choice = *combination % of;
-    *combination /= of;
-    choice
-}
-
-/// The degrees that both parts of a pair may have: d divides n, and d and n/d
-/// are at least 2.
-pub fn part_degrees(n: usize) -> impl Iterator<Item = usize> {
-    (2..=n / 2).filter(move |d| n.is_multiple_of(*d))
 }
 
 /// A list of inputs, block after block: what a block is, and its length.

@@ -36,7 +36,7 @@ fn told(outcome: Outcome) -> Refused
     }
 }
 
-// The record in the first 512 bytes: its modulus, its coefficients and its degree; zeros after a refusal.
+// The record that the bytes begin with: its modulus, its coefficients and its degree; zeros after a refusal.
 #[no_mangle]
 pub extern "C" fn desk_check(
     bytes: &[u8],

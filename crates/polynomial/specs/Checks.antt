@@ -31,7 +31,7 @@ smallest = 2
 unfoldable pub largest : ℕ
 largest = 2147483647
 
--- m is below 2 or above 2,147,483,647
+-- m is below the smallest modulus or above the largest
 unfoldable pub check-modulus : ℕ → Outcome
 check-modulus m = refuse (ltb m smallest || ltb largest m) Neither Modulus
 

@@ -1,4 +1,4 @@
--- A record: 128 words of 4 bytes, low byte first. Word 0 is the modulus, word 1 + i the coefficient of x^i.
+-- A record: words of 4 bytes, low byte first. Word 0 is the modulus, word 1 + i the coefficient of x^i.
 --
 --   word b i            word i of the bytes b
 --   record-bytes        how many bytes a record has

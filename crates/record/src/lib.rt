@@ -1,4 +1,4 @@
-// The record check: the first 512 bytes to a modulus, a polynomial and its degree, or a refusal.
+// The record check: the bytes of a record to a modulus, a polynomial and its degree, or a refusal.
 ghost use mathlib.Core.Path.{_≡_};
 ghost use Prim.Native.Nat.{_+_, _*_, _≤_, _<_};
 ghost use lib.ListN.{length};
@@ -61,7 +61,7 @@ fn nothing(outcome: Outcome) -> Checked
     }
 }
 
-// The record in the first 512 bytes.
+// The record that the bytes begin with.
 pub fn check(bytes: &[u8]) -> Checked
     ensures { λ r. ⌜ r ≡ checked (now (bytes .entry)) ⌝ }
 {

@@ -33,7 +33,7 @@ impl Law for RoundTrip {
     const OTHER_WAY: &'static str = "the pair returned";
 
     fn usual() -> u64 {
-        60_000
+        40_000
     }
 
     fn input(_index: u64, random: &mut Random) -> Asked {

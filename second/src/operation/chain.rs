@@ -57,6 +57,7 @@ impl Operation for Chain {
             PARTS[4],
             PARTS[5],
             "prime degree",
+            "no split, degree not prime",
             "first split at half the degree",
             "begun again below the last s",
             inputs::PRIME,
@@ -70,7 +71,7 @@ impl Operation for Chain {
     };
 
     fn usual() -> u64 {
-        60_000
+        40_000
     }
 
     fn worked() -> Vec<Worked<ChainIn, Chained>> {
@@ -127,6 +128,9 @@ fn kinds_of_rounds(degrees: &[usize], tries: usize) -> Vec<&'static str> {
     let mut kinds = Vec::new();
     if tries == 0 {
         kinds.push("prime degree");
+    }
+    if tries > 0 && degrees.len() == 1 {
+        kinds.push("no split, degree not prime");
     }
     // Here n is even, and s = 2 was tried in vain before n/2.
     if degrees.len() == 2 && degrees[0] == 2 && degrees[1] > 2 {

@@ -43,7 +43,7 @@ impl Operation for ChangePair {
     };
 
     fn usual() -> u64 {
-        120_000
+        80_000
     }
 
     fn worked() -> Vec<Worked<Changing, Two>> {

@@ -44,7 +44,7 @@ impl Operation for ChangePolynomial {
     };
 
     fn usual() -> u64 {
-        120_000
+        80_000
     }
 
     fn worked() -> Vec<Worked<Changing, One>> {

@@ -5,14 +5,13 @@ use crate::answer::Checked;
 use crate::asked::Asked;
 use crate::damage;
 use crate::desk;
-use crate::inputs;
+use crate::inputs::{self, choose};
 use crate::polynomial::{Polynomial, PLACES, TOP_DEGREE};
 use crate::random::Random;
 use crate::record::{self, Record, RECORD_BYTES};
 use crate::refused::{Refused, FIRST};
 use crate::residue::TOP_MODULUS;
 use crate::tally::Wanted;
-use crate::tiny::choose;
 use crate::worked;
 
 pub struct Check;
@@ -41,7 +40,7 @@ impl Operation for Check {
     };
 
     fn usual() -> u64 {
-        200_000
+        100_000
     }
 
     fn worked() -> Vec<Worked<Vec<u8>, Checked>> {

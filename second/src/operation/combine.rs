@@ -28,7 +28,7 @@ impl Operation for Combine {
     };
 
     fn usual() -> u64 {
-        200_000
+        150_000
     }
 
     fn worked() -> Vec<Worked<Input, Changed>> {

@@ -50,7 +50,7 @@ impl Operation for Compose {
     };
 
     fn usual() -> u64 {
-        150_000
+        100_000
     }
 
     fn worked() -> Vec<Worked<Asked, One>> {

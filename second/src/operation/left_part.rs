@@ -52,7 +52,7 @@ impl Operation for LeftPart {
     };
 
     fn usual() -> u64 {
-        120_000
+        80_000
     }
 
     fn worked() -> Vec<Worked<Asked, One>> {

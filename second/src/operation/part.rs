@@ -43,7 +43,7 @@ impl Operation for Part {
     };
 
     fn usual() -> u64 {
-        100_000
+        80_000
     }
 
     fn worked() -> Vec<Worked<PartOf, Place>> {

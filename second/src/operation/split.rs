@@ -4,7 +4,7 @@ use super::{Operation, Own, Worked};
 use crate::answer::Two;
 use crate::asked::Asked;
 use crate::damage;
-use crate::decomposition::pair;
+use crate::decomposition::{pair, part_degrees};
 use crate::desk;
 use crate::inputs;
 use crate::polynomial::{Polynomial, TOP_DEGREE};
@@ -13,7 +13,6 @@ use crate::refused::{Refused, FIRST};
 use crate::residue::common_factor;
 use crate::shape::{self, plain_power, Shape};
 use crate::tally::Wanted;
-use crate::tiny::part_degrees;
 use crate::worked::{self, Coefficients};
 
 pub struct Split;
@@ -61,7 +60,7 @@ impl Operation for Split {
     };
 
     fn usual() -> u64 {
-        200_000
+        120_000
     }
 
     fn worked() -> Vec<Worked<SplitAt, Two>> {
@@ -242,8 +241,8 @@ fn unfit_left_degree(n: usize, random: &mut Random) -> usize {
 /// them.
 fn at_every_r(place: u64, random: &mut Random) -> SplitAt {
     let all = (2..=TOP_DEGREE).map(|n| n + 2).sum::<usize>();
-    // The steps come to every place, as 4001 is a prime that does not divide
-    // the number of places.
+    // A prime that does not divide the number of places, 8250: steps of this
+    // width come to all of them, and soon to every region.
     let mut r = (place as usize * 4_001) % all;
     let mut n = 2;
     while r >= n + 2 {

@@ -4,7 +4,8 @@
 use super::{left_part, Operation, Own, Worked};
 use crate::answer::One;
 use crate::asked::Asked;
-use crate::decomposition;
+use crate::decomposition::{self, part_degrees};
+use crate::inputs::choose;
 use crate::random::Random;
 use crate::tally::Wanted;
 use crate::tiny::{self, List, Size};
@@ -23,7 +24,7 @@ fn list() -> &'static List<Block> {
 
 fn blocks(size: Size) -> impl Iterator<Item = (Block, u64)> {
     let (m, n) = size;
-    tiny::part_degrees(n).map(move |s| ((size, s), tiny::count(size) * tiny::count((m, s))))
+    part_degrees(n).map(move |s| ((size, s), tiny::count(size) * tiny::count((m, s))))
 }
 
 impl Operation for TinyLeftPart {
@@ -53,7 +54,7 @@ impl Operation for TinyLeftPart {
 
     fn input(index: u64, _random: &mut Random) -> Asked {
         let (((m, n), s), mut number) = list().at(index);
-        let h = tiny::monic((m, s), tiny::choose(&mut number, tiny::count((m, s))));
+        let h = tiny::monic((m, s), choose(&mut number, tiny::count((m, s))));
         let f = tiny::monic((m, n), number);
         Asked::two(m, f, h)
     }

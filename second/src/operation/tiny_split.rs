@@ -4,7 +4,7 @@
 use super::{split, Operation, Own, Worked};
 use crate::answer::Two;
 use crate::asked::Asked;
-use crate::decomposition;
+use crate::decomposition::{self, part_degrees};
 use crate::random::Random;
 use crate::tally::Wanted;
 use crate::tiny::{self, List, Size};
@@ -22,7 +22,7 @@ fn list() -> &'static List<Block> {
 }
 
 fn blocks(size: Size) -> impl Iterator<Item = (Block, u64)> {
-    tiny::part_degrees(size.1).map(move |r| ((size, r), tiny::count(size)))
+    part_degrees(size.1).map(move |r| ((size, r), tiny::count(size)))
 }
 
 impl Operation for TinySplit {

@@ -32,7 +32,7 @@ impl Operation for Undo {
     };
 
     fn usual() -> u64 {
-        200_000
+        150_000
     }
 
     fn worked() -> Vec<Worked<Input, Changed>> {
