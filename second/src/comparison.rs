@@ -10,11 +10,20 @@ pub struct Where<'a> {
     pub input: &'a dyn Fn() -> String,
 }
 
+impl Where<'_> {
+    /// The report of a difference: operation, place and input, and what differs.
+    pub fn difference(&self, what: &str) -> String {
+        let Where { name, place, input } = self;
+        let input = input();
+        format!("DIFFERENCE in {name}, {place}\ninput: {input}{what}\n")
+    }
+}
+
 /// An answer and who gave it.
 pub struct By<'a, A>(pub &'a str, pub A);
 
 /// Nothing when `found` is the answer `wanted`; else the report of the
-/// difference: operation, place, input and both answers.
+/// difference, with both answers.
 pub fn agree<A: Answer>(
     at: &Where,
     wanted: By<&A>,
@@ -23,13 +32,9 @@ pub fn agree<A: Answer>(
     let differences = match found.1 {
         Ok(found) if found == *wanted.1 => return Ok(()),
         Ok(answer) => both(&wanted, &By(found.0, &answer)),
-        Err(trespass) => format!("{trespass}\n"),
+        Err(trespass) => trespass,
     };
-    let Where { name, place, input } = at;
-    let input = input();
-    Err(format!(
-        "DIFFERENCE in {name}, {place}\ninput: {input}{differences}"
-    ))
+    Err(at.difference(&differences))
 }
 
 /// Both answers line under line; a star stands where they differ.

@@ -61,8 +61,7 @@ fn one_input<L: Law>(seed: u64, index: u64, tally: &mut Tally) -> Result<(), Str
         place: format!("seed {seed}, input {index}"),
         input: &|| L::show(&input),
     };
-    let trespass = |what: String| format!("DIFFERENCE in {}, {}\n{what}", at.name, at.place);
-    let one = L::one_way(&input, &mut random).map_err(trespass)?;
+    let one = L::one_way(&input, &mut random).map_err(|what| at.difference(&what))?;
     let other = L::other_way(&input, &mut random);
     agree(&at, By(L::ONE_WAY, &one), By(L::OTHER_WAY, other))?;
     tally.count(one.refused(), &[], &L::kinds(&input, &one));

@@ -39,7 +39,7 @@ impl Law for ChangedChain {
     const OTHER_WAY: &'static str = "changed, then chain";
 
     fn usual() -> u64 {
-        15_000
+        30_000
     }
 
     /// Any f that the chain accepts, and any change.

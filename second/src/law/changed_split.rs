@@ -44,7 +44,7 @@ impl Law for ChangedSplit {
     const OTHER_WAY: &'static str = "changed, then split";
 
     fn usual() -> u64 {
-        40_000
+        60_000
     }
 
     fn input(_index: u64, random: &mut Random) -> Input {

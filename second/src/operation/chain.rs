@@ -71,7 +71,7 @@ impl Operation for Chain {
     };
 
     fn usual() -> u64 {
-        40_000
+        80_000
     }
 
     fn worked() -> Vec<Worked<ChainIn, Chained>> {
