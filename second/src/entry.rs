@@ -28,6 +28,8 @@ pub struct Entry {
     pub name: &'static str,
     /// The inputs it gets in a usual run.
     pub usual: fn() -> u64,
+    /// How many there are, where they are a list and not at random.
+    pub list: fn() -> Option<u64>,
     pub run: fn(&Share, &mut Progress) -> Result<u64, String>,
 }
 
@@ -63,11 +65,33 @@ pub fn usual(entries: &[&Entry]) -> u64 {
     entries.iter().map(|entry| (entry.usual)()).sum()
 }
 
+/// Of `all` inputs what falls to an entry with this usual number out of `of`.
+fn portion(all: u64, usual: u64, of: u64) -> u64 {
+    (u128::from(all) * u128::from(usual)).div_ceil(u128::from(of)) as u64
+}
+
 impl Run {
-    /// The entry's share, where all entries together usually get `of` inputs.
-    pub fn share(&self, entry: &Entry, of: u64) -> Share {
-        let product = u128::from(self.inputs) * u128::from((entry.usual)());
-        let inputs = product.div_ceil(u128::from(of)) as u64;
+    /// What each of the entries has to do. A list gives no more inputs than it
+    /// has; what it leaves of its portion the others get.
+    pub fn shares(&self, entries: &[&Entry]) -> Vec<Share> {
+        let of = usual(entries);
+        let listed: u64 = entries.iter().filter_map(|e| self.listed(e, of)).sum();
+        let rest = self.inputs.saturating_sub(listed);
+        let at_random = |entry: &&Entry| (entry.list)().is_none();
+        let others: Vec<&Entry> = entries.iter().copied().filter(at_random).collect();
+        let other = |entry: &Entry| portion(rest, (entry.usual)(), usual(&others));
+        entries
+            .iter()
+            .map(|entry| self.share(self.listed(entry, of).unwrap_or_else(|| other(entry))))
+            .collect()
+    }
+
+    fn listed(&self, entry: &Entry, of: u64) -> Option<u64> {
+        let length = (entry.list)()?;
+        Some(portion(self.inputs, (entry.usual)(), of).min(length))
+    }
+
+    fn share(&self, inputs: u64) -> Share {
         let complete = self.inputs >= ENOUGH;
         Share {
             seed: self.seed,

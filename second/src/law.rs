@@ -37,6 +37,7 @@ pub const fn entry<L: Law>() -> Entry {
     Entry {
         name: L::NAME,
         usual: L::usual,
+        list: || None,
         run: run::<L>,
     }
 }

@@ -108,8 +108,7 @@ fn compare(Wanted { entries, run, list }: &Wanted) -> Result<u64, String> {
     println!("own arithmetic: {chains} worked polynomials compose from their parts");
     let mut progress = Progress::start();
     let mut inputs = 0;
-    for entry in entries {
-        let share = run.share(entry, usual(entries));
+    for (entry, share) in entries.iter().zip(run.shares(entries)) {
         inputs += (entry.run)(&share, &mut progress)?;
     }
     if let Some(program) = list {

@@ -99,6 +99,7 @@ pub const fn entry<O: Operation>() -> Entry {
     Entry {
         name: O::NAME,
         usual: O::usual,
+        list: O::list,
         run: run::<O>,
     }
 }
