@@ -1,24 +1,22 @@
 use std::hint::black_box;
 use std::time::Instant;
 
-const RUNS: usize = 300;
+const RUNS: usize = 600;
 
-/// Nanoseconds a call: the least over many short runs, so that other work on the machine counts little.
-fn least(calls: usize, f: &mut dyn FnMut(usize) -> u64) -> f64 {
-    let mut best = f64::MAX;
-    for _ in 0..RUNS {
-        let start = Instant::now();
-        let mut sum = 0u64;
-        for i in 0..calls {
-            sum = sum.wrapping_add(f(i));
-        }
-        black_box(sum);
-        best = best.min(start.elapsed().as_nanos() as f64 / calls as f64);
+/// Nanoseconds a call in one short run.
+fn run(calls: usize, f: &mut dyn FnMut(usize) -> u64) -> f64 {
+    let start = Instant::now();
+    let mut sum = 0u64;
+    for i in 0..calls {
+        sum = sum.wrapping_add(f(i));
     }
-    best
+    black_box(sum);
+    start.elapsed().as_nanos() as f64 / calls as f64
 }
 
 /// Compares the answers of both on all inputs, then prints the times of both and their ratio.
+///
+/// The least of many short runs, the two by turns, so that other work on the machine counts little and for both alike.
 pub fn beside(
     label: &str,
     calls: usize,
@@ -28,7 +26,11 @@ pub fn beside(
     for i in 0..calls {
         assert_eq!(desk(i), plain(i), "{label}: input {i}");
     }
-    let (a, b) = (least(calls, desk), least(calls, plain));
+    let (mut a, mut b) = (f64::MAX, f64::MAX);
+    for _ in 0..RUNS {
+        a = a.min(run(calls, desk));
+        b = b.min(run(calls, plain));
+    }
     println!("{label:<52}{a:>12.1}{b:>12.1}{:>8.2}", a / b);
 }
 
