@@ -2,11 +2,12 @@
 //! once, so that the order of the tests matters.
 
 use crate::asked::Asked;
+use crate::change::Change;
 use crate::inputs::{self, LOOK_SMALL};
 use crate::polynomial::{Polynomial, TOP_DEGREE};
 use crate::random::Random;
 use crate::refused::{Refused, FIRST};
-use crate::residue::TOP_MODULUS;
+use crate::residue::{multiply, TOP_MODULUS};
 
 /// How often the first inputs go through all lines and all pairs of lines:
 /// chance may spoil a combination, hardly eight times.
@@ -134,7 +135,29 @@ fn offending_power(n: usize, random: &mut Random) -> usize {
 }
 
 /// m or more; for a modulus of 0 that is any value.
-pub fn offending_value(m: u32, random: &mut Random) -> u32 {
+fn offending_value(m: u32, random: &mut Random) -> u32 {
     let any = u64::from(m) + random.below((1 << 32) - u64::from(m));
     random.pick(&[m, m.saturating_add(1), u32::MAX, any as u32])
+}
+
+/// For No. 8, whatever m is: a or b too large, or a without an inverse; a is 0
+/// where no other is known.
+pub fn spoiled_change(m: u32, random: &mut Random) -> Change {
+    if m < 2 {
+        return [random.below(3) as u32, random.below(3) as u32];
+    }
+    let [a, b] = inputs::change(random, m);
+    match random.below(4) {
+        0 => [a, offending_value(m, random)],
+        1 => [offending_value(m, random), b],
+        2 => [0, b],
+        _ => [without_inverse(m, random), b],
+    }
+}
+
+fn without_inverse(m: u32, random: &mut Random) -> u32 {
+    match inputs::factor(m, random) {
+        Some(p) => multiply(p, inputs::residue(random, m), m),
+        None => 0,
+    }
 }

@@ -3,7 +3,6 @@
 //! give them.
 
 use crate::change::{self, Change};
-use crate::damage::offending_value;
 use crate::polynomial::{Polynomial, TOP_DEGREE};
 use crate::random::Random;
 use crate::residue::{common_factor, multiply, TOP_MODULUS};
@@ -149,7 +148,7 @@ pub fn kind_of_modulus(m: u32) -> Option<&'static str> {
 }
 
 /// A factor of m that is neither 1 nor m, where one is known.
-fn factor(m: u32, random: &mut Random) -> Option<u32> {
+pub fn factor(m: u32, random: &mut Random) -> Option<u32> {
     let fits = |p: &&u32| **p < m && m.is_multiple_of(**p);
     let known: Vec<u32> = FACTORS.iter().filter(fits).copied().collect();
     (!known.is_empty()).then(|| random.pick(&known))
@@ -248,27 +247,5 @@ pub fn change(random: &mut Random, m: u32) -> Change {
         if !change::refused(found, m) {
             return found;
         }
-    }
-}
-
-/// A change that is refused by 8, whatever m is: a or b too large, or a without
-/// an inverse; a is 0 where no other is known.
-pub fn bad_change(random: &mut Random, m: u32) -> Change {
-    if m < 2 {
-        return [random.below(3) as u32, random.below(3) as u32];
-    }
-    let [a, b] = change(random, m);
-    match random.below(4) {
-        0 => [a, offending_value(m, random)],
-        1 => [offending_value(m, random), b],
-        2 => [0, b],
-        _ => [without_inverse(m, random), b],
-    }
-}
-
-fn without_inverse(m: u32, random: &mut Random) -> u32 {
-    match factor(m, random) {
-        Some(p) => multiply(p, residue(random, m), m),
-        None => 0,
     }
 }

@@ -24,6 +24,7 @@
 //! kind of answer that an operation can give was never met in a run of 10000
 //! inputs or more, and 2 when the arguments are wrong.
 
+mod all;
 mod answer;
 mod asked;
 mod change;
@@ -51,7 +52,8 @@ mod tally;
 mod tiny;
 mod worked;
 
-use entry::{usual, Entry, Run, ALL};
+use all::ALL;
+use entry::{usual, Entry, Run};
 use progress::Progress;
 use std::env;
 use std::process::ExitCode;

@@ -2,7 +2,7 @@
 //! through.
 //!
 //! A new operation is one more module below, its call in `desk.rs`, and one
-//! more line in `entry.rs`.
+//! more line in `all.rs`.
 
 pub mod chain;
 pub mod change_pair;

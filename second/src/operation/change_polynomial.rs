@@ -112,7 +112,7 @@ pub fn kinds(input: &Changing, refused: Refused) -> Vec<&'static str> {
 pub fn any_change(asked: &Asked, lines: &[Refused], random: &mut Random) -> Change {
     // No change is taken modulo 0 or 1.
     if lines.contains(&BAD_CHANGE) || asked.m < 2 {
-        return inputs::bad_change(random, asked.m);
+        return damage::spoiled_change(asked.m, random);
     }
     match random.below(16) {
         0 => change::IDENTITY,

@@ -100,7 +100,7 @@ pub fn any_modulus(lines: &[Refused], random: &mut Random) -> u32 {
 pub fn any_change(m: u32, bad: bool, random: &mut Random) -> Change {
     // No change is taken modulo 0 or 1.
     if bad || m < 2 {
-        return inputs::bad_change(random, m);
+        return damage::spoiled_change(m, random);
     }
     inputs::change(random, m)
 }
