@@ -17,16 +17,18 @@ fn archive_folder() -> PathBuf {
 fn main() {
     let folder = archive_folder();
     let archive = folder.join("libdesk.a");
+    println!("cargo::rerun-if-env-changed=DESK_LIB_DIR");
+    println!("cargo::rerun-if-changed=build.rs");
+    println!("cargo::rerun-if-changed={}", archive.display());
     // A missing archive is said here, where the remedy can be named; the
     // linker would only say "cannot find -ldesk".
-    assert!(
-        archive.is_file(),
-        "no {}: build the desk's static library, or name its folder in DESK_LIB_DIR",
-        archive.display()
-    );
-    println!("cargo:rerun-if-env-changed=DESK_LIB_DIR");
-    println!("cargo:rerun-if-changed=build.rs");
-    println!("cargo:rerun-if-changed={}", archive.display());
-    println!("cargo:rustc-link-search=native={}", folder.display());
-    println!("cargo:rustc-link-lib=static=desk");
+    if !archive.is_file() {
+        println!(
+            "cargo::error=no {}: run `rt staticlib desk` first, or name the folder in DESK_LIB_DIR",
+            archive.display()
+        );
+        return;
+    }
+    println!("cargo::rustc-link-search=native={}", folder.display());
+    println!("cargo::rustc-link-lib=static=desk");
 }
