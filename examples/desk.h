@@ -1,38 +1,71 @@
-/* The desk for C: link libdesk.a, which `rt staticlib desk` writes to target/staticlib.
+/* The desk for C and C++: link libdesk.a, which `rt staticlib desk` writes to target/staticlib for x86-64 Linux.
  *
- * A polynomial is DESK_TERMS coefficients, that of x^0 first. Every function takes any input: what 01 refuses is refused by
- * number, and every result is written, zeros after a refusal (a change is then (1, 0)). */
+ * A polynomial is DESK_TERMS coefficients, that of x^0 first. Every function takes any numbers: what 01 refuses is refused by
+ * its number, and every result is written, zeros after a refusal (a change is then (1, 0), and an area that is too short stays
+ * as it is).
+ *
+ * Memory: no pointer may be null, and each is aligned for its type, also where a count is 0 and nothing is read or written.
+ * What a function writes (what is not const) may overlap nothing else that it is given: no other result, and nothing that
+ * it reads. What it only reads may overlap: g and h may be one polynomial. Nobody else writes any of it before the call
+ * returns. The library keeps no pointer and has no state, so threads may call it at once; it calls memcpy, memmove and memset.
+ *
+ * Stack that a call takes, about (stack.c measures it): desk_chain 65 KB, desk_split 58 KB, desk_left_part 38 KB,
+ * desk_compose 35 KB, desk_change_pair 6 KB, desk_change_polynomial 4 KB, every other 1 KB. A thread wants some 10 KB more
+ * for itself. */
 #ifndef DESK_H
 #define DESK_H
 
 #include <stddef.h>
 #include <stdint.h>
 
-#define DESK_TERMS 127 /* coefficients of a polynomial */
-#define DESK_WORDS 762 /* words of a chain area that are used */
-#define DESK_BYTES 512 /* bytes of a record */
+#ifdef __cplusplus
+extern "C" {
+#endif
+
+#define DESK_TERMS 127                       /* coefficients of a polynomial */
+#define DESK_PARTS 6                         /* parts of a chain at most */
+#define DESK_WORDS (DESK_PARTS * DESK_TERMS) /* words of a chain area that are used */
+#define DESK_BYTES (4 * (1 + DESK_TERMS))    /* bytes of a record: the modulus, then the coefficients */
 
 typedef uint32_t desk_polynomial[DESK_TERMS];
 
-/* number 0: answered; polynomial 0: neither, 1: the first, 2: the second; power: the lowest offending power for No. 2 */
+/* number: 0 if the request was answered, else
+ *    1  m is no modulus                             7  no pair; no left part
+ *    2  a coefficient is m or more                  8  a or b is m or more, or a has no inverse
+ *    3  the degree is below 2, or all is zero       9  fewer bytes than a record has
+ *    4  the leading coefficient is not 1           10  the composed degree is too high
+ *    5  r, or a chain's n, shares a factor with m  11  the area has fewer than DESK_WORDS words
+ *    6  r, or the degree of h, does not fit
+ * polynomial: which one 2, 3 and 4 concern, 1 the first, 2 the second; 0 for all others
+ * power: the lowest whose coefficient offends for 2; 0 for all others */
 typedef struct {
     uint32_t number;
     uint32_t polynomial;
     uint32_t power;
 } desk_refused;
 
-desk_refused desk_check(const uint8_t *bytes, size_t count, uint32_t *modulus, desk_polynomial *f, size_t *degree);
-desk_refused desk_compose(uint32_t m, const desk_polynomial *g, const desk_polynomial *h, desk_polynomial *f);
-desk_refused desk_left_part(uint32_t m, const desk_polynomial *f, const desk_polynomial *h, desk_polynomial *g);
-desk_refused desk_split(uint32_t m, const desk_polynomial *f, size_t r, desk_polynomial *g, desk_polynomial *h);
-desk_refused desk_change_polynomial(uint32_t m, const desk_polynomial *f, uint32_t a, uint32_t b, desk_polynomial *out);
-desk_refused desk_change_pair(uint32_t m, const desk_polynomial *g, const desk_polynomial *h, uint32_t a, uint32_t b,
-                              desk_polynomial *left, desk_polynomial *right);
-desk_refused desk_combine(uint32_t m, uint32_t a, uint32_t b, uint32_t a2, uint32_t b2, uint32_t (*out)[2]);
-desk_refused desk_undo(uint32_t m, uint32_t a, uint32_t b, uint32_t (*out)[2]);
-/* numbers: parts, tries, price */
-desk_refused desk_chain(uint32_t m, const desk_polynomial *f, uint32_t *area, size_t count, size_t (*numbers)[3]);
-/* place: where part i starts in the area and how long it is; 0 and 0 if it is empty */
-void desk_part(const uint32_t *area, size_t count, size_t i, size_t (*place)[2]);
+/* the record that the bytes begin with */
+desk_refused desk_check(const uint8_t *bytes, size_t count, uint32_t *modulus, desk_polynomial f, size_t *degree);
+/* f = g(h) */
+desk_refused desk_compose(uint32_t m, const desk_polynomial g, const desk_polynomial h, desk_polynomial f);
+/* the g with f = g(h) */
+desk_refused desk_left_part(uint32_t m, const desk_polynomial f, const desk_polynomial h, desk_polynomial g);
+/* the pair with f = g(h), g of degree r and h(0) = 0 */
+desk_refused desk_split(uint32_t m, const desk_polynomial f, size_t r, desk_polynomial g, desk_polynomial h);
+/* f, or the pair g and h, changed by (a, b) */
+desk_refused desk_change_polynomial(uint32_t m, const desk_polynomial f, uint32_t a, uint32_t b, desk_polynomial out);
+desk_refused desk_change_pair(uint32_t m, const desk_polynomial g, const desk_polynomial h, uint32_t a, uint32_t b,
+                              desk_polynomial left, desk_polynomial right);
+/* out: first (a, b), then (a2, b2), as one change; the change that undoes (a, b) */
+desk_refused desk_combine(uint32_t m, uint32_t a, uint32_t b, uint32_t a2, uint32_t b2, uint32_t out[2]);
+desk_refused desk_undo(uint32_t m, uint32_t a, uint32_t b, uint32_t out[2]);
+/* the complete chain of f in the area, its parts left to right; numbers: parts, tries, price */
+desk_refused desk_chain(uint32_t m, const desk_polynomial f, uint32_t *area, size_t count, size_t numbers[3]);
+/* place: where part i, from 0, starts in the area and how long it is; 0 and 0 if it is empty */
+void desk_part(const uint32_t *area, size_t count, size_t i, size_t place[2]);
+
+#ifdef __cplusplus
+}
+#endif
 
 #endif

@@ -1,7 +1,7 @@
 //! Splits 01's polynomial B at each left degree, and prints its chain.
 
 const TERMS: usize = 127;
-const WORDS: usize = 762;
+const WORDS: usize = 6 * TERMS;
 type Polynomial = [u32; TERMS];
 
 #[repr(C)]

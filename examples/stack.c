@@ -1,0 +1,82 @@
+/* Measures the stack that each function of desk.h takes: it is called on a painted stack, and what is not paint afterwards
+ * is counted. By hand, for the figures in desk.h, after `rt staticlib desk`:
+ *
+ *     cc -O2 -Wl,-z,now -o target/examples/stack examples/stack.c target/staticlib/libdesk.a && target/examples/stack
+ *
+ * The requests are x^n and x^n + x at all degrees of g and h, and the most that any of them takes is printed. By -z,now memcpy
+ * is found before the first call, which would count as the function's own. */
+#include <stdio.h>
+#include <string.h>
+#include <ucontext.h>
+
+#include "desk.h"
+
+#define ROOM (1 << 18)
+#define PAINT 0xA5
+
+static unsigned char stack[ROOM] __attribute__((aligned(16)));
+static ucontext_t caller, callee;
+
+static const uint32_t m = 101;
+static const uint8_t square[DESK_BYTES] = {101, [4 * 3] = 1};
+static desk_polynomial f, g, h, left, right;
+static uint32_t area[DESK_WORDS], change[2];
+static size_t r, numbers[3];
+
+static void check(void) { desk_check(square, sizeof square, change, left, numbers); }
+static void compose(void) { desk_compose(m, g, h, left); }
+static void left_part(void) { desk_left_part(m, f, h, left); }
+static void split(void) { desk_split(m, f, r, left, right); }
+static void change_polynomial(void) { desk_change_polynomial(m, f, 2, 3, left); }
+static void change_pair(void) { desk_change_pair(m, g, h, 2, 3, left, right); }
+static void combine(void) { desk_combine(m, 2, 3, 5, 7, change); }
+static void undo(void) { desk_undo(m, 2, 3, change); }
+static void chain(void) { desk_chain(m, f, area, DESK_WORDS, numbers); }
+static void part(void) { desk_part(area, DESK_WORDS, 0, numbers); }
+
+static const struct {
+    const char *name;
+    void (*run)(void);
+} functions[] = {
+    {"desk_check", check}, {"desk_compose", compose}, {"desk_left_part", left_part}, {"desk_split", split},
+    {"desk_change_polynomial", change_polynomial}, {"desk_change_pair", change_pair}, {"desk_combine", combine},
+    {"desk_undo", undo}, {"desk_chain", chain}, {"desk_part", part},
+};
+
+static size_t taken(void (*run)(void)) {
+    memset(stack, PAINT, ROOM);
+    getcontext(&callee);
+    callee.uc_stack.ss_sp = stack;
+    callee.uc_stack.ss_size = ROOM;
+    callee.uc_link = &caller;
+    makecontext(&callee, run, 0);
+    swapcontext(&caller, &callee);
+    size_t untouched = 0;
+    while (untouched < ROOM && stack[untouched] == PAINT) untouched++;
+    return ROOM - untouched;
+}
+
+static size_t most_taken(void (*run)(void)) {
+    size_t most = 0;
+    for (r = 2; 2 * r < DESK_TERMS; r++) {
+        for (size_t s = 2; r * s < DESK_TERMS; s++) {
+            memset(f, 0, sizeof f);
+            memset(g, 0, sizeof g);
+            memset(h, 0, sizeof h);
+            f[r * s] = g[r] = h[s] = 1;
+            for (f[1] = 0; f[1] < 2; f[1]++) {
+                size_t now = taken(run);
+                if (most < now) most = now;
+            }
+        }
+    }
+    return most;
+}
+
+int main(void) {
+    for (size_t i = 0; i < sizeof functions / sizeof *functions; i++) {
+        size_t most = most_taken(functions[i].run);
+        printf("%-24s %6zu bytes, %zu KB\n", functions[i].name, most, (most + 1023) / 1024);
+    }
+    return 0;
+}

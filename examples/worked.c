@@ -1,0 +1,158 @@
+/* 01's worked polynomials, asked of all ten functions. It is C and C++. */
+#include <inttypes.h>
+#include <stdio.h>
+
+#include "desk.h"
+
+static void print(const uint32_t *words, size_t count) {
+    while (count > 0 && words[count - 1] == 0) count--;
+    printf(" [");
+    for (size_t i = 0; i < count; i++) printf("%s%" PRIu32, i == 0 ? "" : ", ", words[i]);
+    printf("]");
+}
+
+/* Begins a line: the name of the request, and the refusal if it is one. */
+static int answered(const char *name, desk_refused refused) {
+    static const char *const concerned[] = {"neither", "first", "second"};
+    printf("%s:", name);
+    if (refused.number == 0) return 1;
+    printf(" No. %" PRIu32 ", %s, power %" PRIu32 "\n", refused.number, concerned[refused.polynomial], refused.power);
+    return 0;
+}
+
+static void one(const char *name, desk_refused refused, const desk_polynomial f) {
+    if (!answered(name, refused)) return;
+    print(f, DESK_TERMS);
+    printf("\n");
+}
+
+static void two(const char *name, desk_refused refused, const desk_polynomial g, const desk_polynomial h) {
+    if (!answered(name, refused)) return;
+    print(g, DESK_TERMS);
+    print(h, DESK_TERMS);
+    printf("\n");
+}
+
+static void change(const char *name, desk_refused refused, const uint32_t made[2]) {
+    if (!answered(name, refused)) return;
+    printf(" (%" PRIu32 ", %" PRIu32 ")\n", made[0], made[1]);
+}
+
+static void print_part(const uint32_t *area, size_t count, size_t i) {
+    size_t place[2];
+    desk_part(area, count, i, place);
+    print(area + place[0], place[1]);
+}
+
+static void part(const char *name, const uint32_t *area, size_t count, size_t i) {
+    printf("%s:", name);
+    print_part(area, count, i);
+    printf("\n");
+}
+
+static void chain(const char *name, uint32_t m, const desk_polynomial f, uint32_t *area, size_t count) {
+    size_t numbers[3];
+    if (!answered(name, desk_chain(m, f, area, count, numbers))) return;
+    for (size_t i = 0; i < numbers[0]; i++) print_part(area, count, i);
+    printf(", tries %zu, price %zu\n", numbers[1], numbers[2]);
+}
+
+static void check(const char *name, uint32_t m, const desk_polynomial f, size_t count) {
+    uint8_t bytes[DESK_BYTES];
+    for (size_t i = 0; i < DESK_BYTES; i++) {
+        uint32_t word = i < 4 ? m : f[i / 4 - 1];
+        bytes[i] = (uint8_t)(word >> 8 * (i % 4));
+    }
+    desk_polynomial found;
+    uint32_t modulus;
+    size_t degree;
+    if (!answered(name, desk_check(bytes, count, &modulus, found, &degree))) return;
+    printf(" m %" PRIu32 ", degree %zu,", modulus, degree);
+    print(found, DESK_TERMS);
+    printf("\n");
+}
+
+static const desk_polynomial A = {10, 3, 6, 7, 6, 3, 1};
+static const desk_polynomial B = {96, 3, 9, 1, 6, 0, 1};
+static const desk_polynomial D = {0, 0, 0, 0, 0, 0, 1, 3, 3, 1};
+static const desk_polynomial E = {0, 0, 9, 54, 87, 54, 8, 18, 54, 2, 12, 0, 1};
+static const desk_polynomial F = {1, 0, 0, 0, 1};
+static const desk_polynomial G = {0, 0, 1, 0, 1};
+static const desk_polynomial H = {1, 1, 0, 0, 1};
+static const desk_polynomial I = {1, 0, 0, 1, 1};
+static const desk_polynomial square = {0, 0, 1};
+static const desk_polynomial square_and_x = {0, 1, 1};
+static const desk_polynomial square_and_1 = {1, 0, 1};
+static const desk_polynomial linear = {1, 1};
+
+static void pairs(void) {
+    static const desk_polynomial given = {1, 1, 1};
+    desk_polynomial f, g, h;
+    two("A split at 3", desk_split(101, A, 3, g, h), g, h);
+    two("A split at 2", desk_split(101, A, 2, g, h), g, h);
+    two("B split at 3", desk_split(101, B, 3, g, h), g, h);
+    two("B split at 2", desk_split(101, B, 2, g, h), g, h);
+    one("C", desk_left_part(101, A, given, g), g);
+    two("D split at 3", desk_split(4, D, 3, g, h), g, h);
+    two("H split at 2", desk_split(2, H, 2, g, h), g, h);
+    one("H, left part", desk_left_part(2, H, square_and_x, g), g);
+    one("I", desk_left_part(2, I, square_and_x, g), g);
+    one("J, one way", desk_compose(2, square_and_x, square, f), f);
+    one("J, the other", desk_compose(2, square, square_and_x, f), f);
+}
+
+static void changes(void) {
+    desk_polynomial f, g, h;
+    uint32_t made[2];
+    one("F changed", desk_change_polynomial(101, F, 1, 1, f), f);
+    two("F changed, split at 2", desk_split(101, f, 2, g, h), g, h);
+    two("F, its pair changed", desk_change_pair(101, square_and_1, square, 1, 1, g, h), g, h);
+    one("G changed", desk_change_polynomial(5, G, 2, 0, f), f);
+    two("G changed, split at 2", desk_split(5, f, 2, g, h), g, h);
+    two("G, its pair changed", desk_change_pair(5, square_and_x, square, 2, 0, g, h), g, h);
+    change("first (1, 1), then (2, 3)", desk_combine(101, 1, 1, 2, 3, made), made);
+    change("(2, 4) undone", desk_undo(101, 2, 4, made), made);
+    change("first (2, 4), then that", desk_combine(101, 2, 4, made[0], made[1], made), made);
+    change("(2, 0) undone, m 4", desk_undo(4, 2, 0, made), made);
+}
+
+static void chains(void) {
+    uint32_t area[DESK_WORDS];
+    chain("B, chain", 101, B, area, DESK_WORDS);
+    chain("E, chain", 101, E, area, DESK_WORDS);
+    part("E, part 2", area, DESK_WORDS, 2);
+    part("E, part 3", area, DESK_WORDS, 3);
+    chain("H, chain", 2, H, area, DESK_WORDS);
+    part("H, part 0", area, DESK_WORDS, 0);
+    chain("B, a word short", 101, B, area, DESK_WORDS - 1);
+}
+
+static void limits(void) {
+    desk_polynomial f, g = {0}, h;
+    uint32_t area[DESK_WORDS];
+    g[63] = 1;
+    one("K, m 1", desk_compose(1, square, square, f), f);
+    one("K, m 2", desk_compose(2, square, square, f), f);
+    one("K, m 2147483647", desk_compose(2147483647, square, square, f), f);
+    one("K, m 2147483648", desk_compose(2147483648, square, square, f), f);
+    if (desk_compose(101, g, square, f).number == 0) chain("L, 63 and 2, chain", 101, f, area, DESK_WORDS);
+    g[64] = 1;
+    one("L, 64 and 2", desk_compose(101, g, square, f), f);
+    one("L, x + 1", desk_compose(101, linear, square, f), f);
+    two("L, r = 0", desk_split(101, A, 0, g, h), g, h);
+    two("L, r = 1", desk_split(101, A, 1, g, h), g, h);
+    two("L, r = n", desk_split(101, A, 6, g, h), g, h);
+}
+
+int main(void) {
+    desk_polynomial f;
+    pairs();
+    changes();
+    chains();
+    limits();
+    check("B, record", 101, B, DESK_BYTES);
+    check("B, record, a byte short", 101, B, DESK_BYTES - 1);
+    check("E, record, m 9", 9, E, DESK_BYTES);
+    one("E as h, m 9", desk_compose(9, square, E, f), f);
+    return 0;
+}
