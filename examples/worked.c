@@ -1,4 +1,4 @@
-/* 01's worked polynomials, asked of all ten functions. It is C and C++. */
+/* 01's worked polynomials, asked of all ten functions. It is C and C++; worked.py asks the same and prints the same. */
 #include <inttypes.h>
 #include <stdio.h>
 

@@ -1,0 +1,224 @@
+"""The desk for Python, over target/examples/libdesk.so, which examples/run makes (or the library that DESK_LIBRARY names).
+
+A polynomial is a list of at most TERMS whole numbers, constant term first; an answer has no zeros above its degree. A change
+is (a, b). Where 01 refuses, Refused is raised. What is no request at all raises ValueError (a number that does not fit its
+word, a list that is too long) or TypeError (what is no whole number).
+"""
+
+import collections
+import ctypes
+import operator
+import os
+import pathlib
+
+TERMS = 127  # coefficients of a polynomial
+PARTS = 6  # parts of a chain at most
+WORDS = PARTS * TERMS  # words of a chain area that are used
+BYTES = 4 * (1 + TERMS)  # bytes of a record: the modulus, then the coefficients
+
+REASONS = {
+    1: "m is no modulus",
+    2: "a coefficient is m or more",
+    3: "the degree is below 2, or all is zero",
+    4: "the leading coefficient is not 1",
+    5: "r, or a chain's n, shares a factor with m",
+    6: "r, or the degree of h, does not fit",
+    7: "no pair; no left part",
+    8: "a or b is m or more, or a has no inverse",
+    9: "fewer bytes than a record has",
+    10: "the composed degree is too high",
+    11: f"the area has fewer than {WORDS} words",
+}
+
+
+class Refused(Exception):
+    """A refusal of 01: its number, the polynomial it concerns ("first", "second" or None), and the power of x.
+
+    The power is the lowest whose coefficient offends for No. 2, and 0 for all others.
+    """
+
+    def __init__(self, number, polynomial, power):
+        super().__init__(number, polynomial, power)
+        self.number = number
+        self.polynomial = polynomial
+        self.power = power
+
+    def __str__(self):
+        place = f" ({self.polynomial} polynomial)" if self.polynomial else ""
+        power = f", at x^{self.power}" if self.number == 2 else ""
+        return f"No. {self.number}: {REASONS.get(self.number, 'refused')}{power}{place}"
+
+
+Checked = collections.namedtuple("Checked", "modulus polynomial degree")
+Chain = collections.namedtuple("Chain", "parts tries price")
+
+
+# The library.
+
+
+_Word = ctypes.c_uint32
+_Size = ctypes.c_size_t
+_Words = ctypes.POINTER(_Word)
+_Polynomial = _Word * TERMS
+_Change = _Word * 2
+_Numbers = _Size * 3
+_Place = _Size * 2
+
+
+class _Refused(ctypes.Structure):
+    _fields_ = [("number", _Word), ("polynomial", _Word), ("power", _Word)]
+
+
+_FUNCTIONS = {
+    "check": (ctypes.c_char_p, _Size, _Words, _Polynomial, ctypes.POINTER(_Size)),
+    "compose": (_Word, _Polynomial, _Polynomial, _Polynomial),
+    "left_part": (_Word, _Polynomial, _Polynomial, _Polynomial),
+    "split": (_Word, _Polynomial, _Size, _Polynomial, _Polynomial),
+    "change_polynomial": (_Word, _Polynomial, _Word, _Word, _Polynomial),
+    "change_pair": (_Word, _Polynomial, _Polynomial, _Word, _Word, _Polynomial, _Polynomial),
+    "combine": (_Word, _Word, _Word, _Word, _Word, _Change),
+    "undo": (_Word, _Word, _Word, _Change),
+    "chain": (_Word, _Polynomial, _Words, _Size, _Numbers),
+    "part": (_Words, _Size, _Size, _Place),
+}
+
+
+def _library():
+    usual = pathlib.Path(__file__).resolve().parents[1] / "target" / "examples" / "libdesk.so"
+    path = os.environ.get("DESK_LIBRARY", str(usual))
+    if not os.path.exists(path):
+        raise ImportError(f"no {path}: run examples/run first, or name the library in DESK_LIBRARY")
+    library = ctypes.CDLL(path)
+    for name, parameters in _FUNCTIONS.items():
+        function = getattr(library, f"desk_{name}")
+        function.argtypes = parameters
+        function.restype = None if name == "part" else _Refused
+    return library
+
+
+_desk = _library()
+
+
+def _answered(refused):
+    if refused.number != 0:
+        polynomial = (None, "first", "second")[refused.polynomial]
+        raise Refused(refused.number, polynomial, refused.power)
+
+
+# What is given, and what comes back. ctypes alone would take any number modulo 2^32.
+
+
+def _number(value, kind=_Word):
+    number = operator.index(value)
+    bits = 8 * ctypes.sizeof(kind)
+    if not 0 <= number < 1 << bits:
+        raise ValueError(f"{number} is no word of {bits} bits")
+    return number
+
+
+def _polynomial(f):
+    words = [_number(c) for c in f]
+    if len(words) > TERMS:
+        raise ValueError(f"{len(words)} coefficients: a polynomial has at most {TERMS}")
+    return _Polynomial(*words)
+
+
+def _change(change):
+    a, b = change
+    return _number(a), _number(b)
+
+
+def _area(area):
+    words = [_number(word) for word in area]
+    return (_Word * len(words))(*words)
+
+
+def _trimmed(words):
+    words = list(words)
+    while words and words[-1] == 0:
+        words.pop()
+    return words
+
+
+# The operations.
+
+
+def check(record):
+    """The modulus, polynomial and degree of the record that these bytes begin with."""
+    data = memoryview(record).tobytes()
+    modulus, f, degree = _Word(), _Polynomial(), _Size()
+    _answered(_desk.desk_check(data, len(data), modulus, f, degree))
+    return Checked(modulus.value, _trimmed(f), degree.value)
+
+
+def compose(m, g, h):
+    """g(h)."""
+    f = _Polynomial()
+    _answered(_desk.desk_compose(_number(m), _polynomial(g), _polynomial(h), f))
+    return _trimmed(f)
+
+
+def left_part(m, f, h):
+    """The g with f = g(h)."""
+    g = _Polynomial()
+    _answered(_desk.desk_left_part(_number(m), _polynomial(f), _polynomial(h), g))
+    return _trimmed(g)
+
+
+def split(m, f, r):
+    """The pair (g, h) with f = g(h), g of degree r and h(0) = 0."""
+    g, h = _Polynomial(), _Polynomial()
+    _answered(_desk.desk_split(_number(m), _polynomial(f), _number(r, _Size), g, h))
+    return _trimmed(g), _trimmed(h)
+
+
+def change_polynomial(m, f, change):
+    """f changed by (a, b)."""
+    changed = _Polynomial()
+    _answered(_desk.desk_change_polynomial(_number(m), _polynomial(f), *_change(change), changed))
+    return _trimmed(changed)
+
+
+def change_pair(m, g, h, change):
+    """The pair (g, h) changed by (a, b)."""
+    left, right = _Polynomial(), _Polynomial()
+    _answered(_desk.desk_change_pair(_number(m), _polynomial(g), _polynomial(h), *_change(change), left, right))
+    return _trimmed(left), _trimmed(right)
+
+
+def combine(m, first, second):
+    """The one change that is the first and then the second."""
+    made = _Change()
+    _answered(_desk.desk_combine(_number(m), *_change(first), *_change(second), made))
+    return tuple(made)
+
+
+def undo(m, change):
+    """The change that undoes (a, b)."""
+    made = _Change()
+    _answered(_desk.desk_undo(_number(m), *_change(change), made))
+    return tuple(made)
+
+
+def chain(m, f, area=None):
+    """The parts of f's complete chain, left to right, its tries and its price.
+
+    A list of words given as the area is written as 01 says, after a refusal too.
+    """
+    words = _area([0] * WORDS if area is None else area)
+    numbers = _Numbers()
+    refused = _desk.desk_chain(_number(m), _polynomial(f), words, len(words), numbers)
+    if area is not None:
+        area[:] = words
+    _answered(refused)
+    parts, tries, price = numbers
+    return Chain([part(words, i) for i in range(parts)], tries, price)
+
+
+def part(area, i):
+    """Part i of a chain area, from 0; [] if it is empty."""
+    words = _area(area)
+    place = _Place()
+    _desk.desk_part(words, len(words), _number(i, _Size), place)
+    start, length = place
+    return _trimmed(words[start : start + length])

@@ -1,0 +1,135 @@
+"""01's worked polynomials, asked of all operations of desk.py. It prints what worked.c prints."""
+
+import struct
+
+import desk
+
+A = [10, 3, 6, 7, 6, 3, 1]
+B = [96, 3, 9, 1, 6, 0, 1]
+D = [0, 0, 0, 0, 0, 0, 1, 3, 3, 1]
+E = [0, 0, 9, 54, 87, 54, 8, 18, 54, 2, 12, 0, 1]
+F = [1, 0, 0, 0, 1]
+G = [0, 0, 1, 0, 1]
+H = [1, 1, 0, 0, 1]
+I = [1, 0, 0, 1, 1]
+SQUARE = [0, 0, 1]
+
+
+def say(name, text, ask, *request):
+    """Prints the answer in the form that text gives it, or the refusal; returns the answer."""
+    try:
+        answer = ask(*request)
+    except desk.Refused as refused:
+        concerned = refused.polynomial or "neither"
+        print(f"{name}: No. {refused.number}, {concerned}, power {refused.power}")
+        return None
+    print(f"{name}: {text(answer)}")
+    return answer
+
+
+def two(pair):
+    return " ".join(map(str, pair))
+
+
+def chained(chain):
+    return f"{two(chain.parts)}, tries {chain.tries}, price {chain.price}"
+
+
+def checked(found):
+    return f"m {found.modulus}, degree {found.degree}, {found.polynomial}"
+
+
+def record(m, f):
+    zeros = [0] * (desk.TERMS - len(f))
+    return struct.pack(f"<{1 + desk.TERMS}I", m, *f, *zeros)
+
+
+def pairs():
+    say("A split at 3", two, desk.split, 101, A, 3)
+    say("A split at 2", two, desk.split, 101, A, 2)
+    say("B split at 3", two, desk.split, 101, B, 3)
+    say("B split at 2", two, desk.split, 101, B, 2)
+    say("C", str, desk.left_part, 101, A, [1, 1, 1])
+    say("D split at 3", two, desk.split, 4, D, 3)
+    say("H split at 2", two, desk.split, 2, H, 2)
+    say("H, left part", str, desk.left_part, 2, H, [0, 1, 1])
+    say("I", str, desk.left_part, 2, I, [0, 1, 1])
+    say("J, one way", str, desk.compose, 2, [0, 1, 1], SQUARE)
+    say("J, the other", str, desk.compose, 2, SQUARE, [0, 1, 1])
+
+
+def changes():
+    changed = say("F changed", str, desk.change_polynomial, 101, F, (1, 1))
+    say("F changed, split at 2", two, desk.split, 101, changed, 2)
+    say("F, its pair changed", two, desk.change_pair, 101, [1, 0, 1], SQUARE, (1, 1))
+    changed = say("G changed", str, desk.change_polynomial, 5, G, (2, 0))
+    say("G changed, split at 2", two, desk.split, 5, changed, 2)
+    say("G, its pair changed", two, desk.change_pair, 5, [0, 1, 1], SQUARE, (2, 0))
+    say("first (1, 1), then (2, 3)", str, desk.combine, 101, (1, 1), (2, 3))
+    undoing = say("(2, 4) undone", str, desk.undo, 101, (2, 4))
+    say("first (2, 4), then that", str, desk.combine, 101, (2, 4), undoing)
+    say("(2, 0) undone, m 4", str, desk.undo, 4, (2, 0))
+
+
+def chains():
+    area = [0] * desk.WORDS
+    say("B, chain", chained, desk.chain, 101, B)
+    say("E, chain", chained, desk.chain, 101, E, area)
+    say("E, part 2", str, desk.part, area, 2)
+    say("E, part 3", str, desk.part, area, 3)
+    say("H, chain", chained, desk.chain, 2, H, area)
+    say("H, part 0", str, desk.part, area, 0)
+    say("B, a word short", chained, desk.chain, 101, B, area[1:])
+
+
+def limits():
+    say("K, m 1", str, desk.compose, 1, SQUARE, SQUARE)
+    say("K, m 2", str, desk.compose, 2, SQUARE, SQUARE)
+    say("K, m 2147483647", str, desk.compose, 2147483647, SQUARE, SQUARE)
+    say("K, m 2147483648", str, desk.compose, 2147483648, SQUARE, SQUARE)
+    highest = desk.compose(101, [0] * 63 + [1], SQUARE)
+    say("L, 63 and 2, chain", chained, desk.chain, 101, highest)
+    say("L, 64 and 2", str, desk.compose, 101, [0] * 64 + [1], SQUARE)
+    say("L, x + 1", str, desk.compose, 101, [1, 1], SQUARE)
+    for name, r in ("0", 0), ("1", 1), ("n", 6):
+        say(f"L, r = {name}", two, desk.split, 101, A, r)
+
+
+def records():
+    say("B, record", checked, desk.check, record(101, B))
+    say("B, record, a byte short", checked, desk.check, record(101, B)[:-1])
+    say("E, record, m 9", checked, desk.check, record(9, E))
+    say("E as h, m 9", str, desk.compose, 9, SQUARE, E)
+
+
+def no_request(error, ask, *request):
+    """What is no request at all raises a plain error of Python, and the desk is not asked."""
+    try:
+        answer = ask(*request)
+    except error:
+        return
+    raise AssertionError(f"{request} is no request, and was answered: {answer}")
+
+
+def no_requests():
+    no_request(ValueError, desk.split, 101, [1 << 32, 0, 1], 2)
+    no_request(ValueError, desk.split, 101, [-1, 0, 1], 2)
+    no_request(ValueError, desk.split, 101, [0] * (desk.TERMS + 1), 2)
+    no_request(ValueError, desk.split, 1 << 32, A, 2)
+    no_request(ValueError, desk.split, 101, A, 1 << 64)
+    no_request(ValueError, desk.undo, 101, (1, 1 << 32))
+    no_request(ValueError, desk.undo, 101, (1, 0, 0))
+    no_request(ValueError, desk.chain, 101, A, [1 << 32])
+    no_request(ValueError, desk.part, [], -1)
+    no_request(TypeError, desk.split, 101, [0.5, 0, 1], 2)
+    no_request(TypeError, desk.split, 101, 7, 2)
+    no_request(TypeError, desk.check, desk.BYTES)
+
+
+if __name__ == "__main__":
+    pairs()
+    changes()
+    chains()
+    limits()
+    records()
+    no_requests()
