@@ -13,13 +13,12 @@
 --   chain-carried, chain-outcome-carried     same parts but for the change, same degrees, same number of tries, same refusal
 --   split-carried       the same for a single split, its "no pair" and every other refusal included
 use mathlib.Core.Path.{_≡_, sym, _∙_}
-use mathlib.Core.Logic.{_↔_}
 use mathlib.Core.List.{List}
-use Prim.Native.Nat.{ℕ, _*_, _/_, _≤_}
+use Prim.Native.Nat.{ℕ, _*_, _≤_}
 use lib.ListN.{length}
 use Rattle.algebra.specs.Number.{Coprime}
 use Rattle.algebra.specs.Polynomial.{degree, terms, limit, Reduced}
-use Rattle.algebra.specs.Pair.{Pair, Normal}
+use Rattle.algebra.specs.Pair.{Normal}
 use Rattle.algebra.specs.Change.{Changed}
 use Rattle.refusal.specs.declared.Outcome.the-variants.{Answered}
 use Rattle.polynomial.specs.Checks.{check-one, Accepted}
@@ -28,9 +27,10 @@ use Rattle.polynomial.specs.declared.Parts.{Parts}
 use Rattle.record.specs.Record.{checked}
 use Rattle.record.specs.declared.Checked.{Checked}
 use Rattle.record.proofs.Answers as record-law
-use Rattle.left.specs.Left.{LeftPart}
-use Rattle.pair.specs.Pairing.{compose, check-left, LeftPartOf, check-split, Splits}
+use Rattle.pair.specs.Pairing.{compose, LeftPartOf, Splits}
 use Rattle.pair.proofs.Determined as pair-law
+use Rattle.pair.proofs.Exact as exact-law
+use Rattle.pair.proofs.Exact.{ExactSplit, ExactLeft}
 use Rattle.change.specs.declared.Change.{Change}
 use Rattle.change.specs.declared.Made.{Made}
 use Rattle.change.specs.Changing.{ChangesPolynomial, ChangesPair, Combines, Undoing}
@@ -78,13 +78,11 @@ part-answer xs i e f = e ∙ sym f
 
 -- Demand 2
 
-pub split-exact : {m r : ℕ} {f : List ℕ} → length f ≡ terms → {x : Parts} → Splits m f r x → check-split m f r ≡ Answered → Coprime r m
-    → (x .outcome ≡ Answered) ↔ ((g h : List ℕ) × Pair m f r (degree f / r) g h)
-split-exact = pair-law.split-exact
+pub split-exact : {m r s : ℕ} {f : List ℕ} → Accepted m f → 2 ≤ r → 2 ≤ s → r * s ≡ degree f → Coprime r m → {x : Parts} → Splits m f r x → ExactSplit m f r s x
+split-exact = exact-law.split-exact
 
-pub left-part-exact : {m : ℕ} {f h : List ℕ} → length f ≡ terms → length h ≡ terms → {x : Answer} → LeftPartOf m f h x → check-left m f h ≡ Answered
-    → (x .outcome ≡ Answered) ↔ ((g : List ℕ) × LeftPart m f (degree f / degree h) h g)
-left-part-exact = pair-law.left-exact
+pub left-part-exact : {m r : ℕ} {f h : List ℕ} → Accepted m f → Accepted m h → 2 ≤ r → r * degree h ≡ degree f → {x : Answer} → LeftPartOf m f h x → ExactLeft m f h r x
+left-part-exact = exact-law.left-exact
 
 pub chain-composes : {m : ℕ} {f xs ys : List ℕ} {x : Chained} → length f ≡ terms → ChainOf m f xs ys x → x .outcome ≡ Answered
     → (parts : List (List ℕ)) × Complete m f xs ys x parts

@@ -3,11 +3,11 @@
 --   compose-determined       two answers to: compose g and h, are equal
 --   left-part-determined     two answers to: the left part, are equal
 --   split-determined         two answers to: a split, are equal
---   left-exact, split-exact  past the other refusals: an answer exactly if there is a left part, a pair; else No. 7
+--   split-accepted           what passes the checks of a split
+--   accepted-left, accepted-split         what is accepted, with degrees that fit, passes the checks of the left part, of a split
 --   composed-reduced, composed-same       the composed polynomial is reduced, and is g(h)
 --   round-trip               composing a pair with h(0) = 0 and splitting it at r gives that pair back
 use mathlib.Core.Path.{_≡_, refl, sym, ap, ap₂, _∙_}
-use mathlib.Core.Logic.{_↔_}
 use mathlib.Core.List.{List}
 use Prim.Native.Nat.{ℕ, _*_, _/_, _≤_, _<_}
 use native.Mathlib.Nat as N
@@ -15,16 +15,13 @@ use native.Mathlib.Omega.{arith}
 use lib.ListN.{length}
 use Rattle.algebra.specs.Number.{Coprime}
 use Rattle.algebra.specs.Polynomial.{after, degree, terms, limit, Same, Monic, Reduced}
-use Rattle.algebra.specs.Pair.{Pair, Normal, NormalPair}
+use Rattle.algebra.specs.Pair.{Normal, NormalPair}
 use Rattle.algebra.proofs.Polynomials.{same-sym, monic-same}
 use Rattle.algebra.proofs.Coefficients.{after-monic}
 use Rattle.algebra.proofs.Reduction.{reduced, reduced-reduced, reduced-same, degree-monic}
 use Rattle.algebra.proofs.Factors.{coprime-invertible}
 use Rattle.algebra.proofs.Pairs as P
-use Rattle.refusal.specs.Refusal.{refusal}
 use Rattle.refusal.specs.declared.Refusal.{Refusal}
-use Rattle.refusal.specs.declared.Concerns.the-variants.{Neither}
-use Rattle.refusal.specs.declared.Reason.the-variants.{NoPair}
 use Rattle.refusal.specs.declared.Outcome.{Outcome}
 use Rattle.refusal.specs.declared.Outcome.the-variants.{Answered, Refused}
 use Rattle.refusal.proofs.Outcomes.{never, then-both, refuse-answered}
@@ -33,9 +30,8 @@ use Rattle.polynomial.specs.Answers.{nothing, no-parts}
 use Rattle.polynomial.specs.Degrees.{Degrees}
 use Rattle.polynomial.specs.declared.Answer.{Answer}
 use Rattle.polynomial.specs.declared.Parts.{Parts}
-use Rattle.polynomial.proofs.Acceptance.{accepted-one, one-accepted, accepted-two, accepted-as, degree-fits, pair-accepted}
+use Rattle.polynomial.proofs.Acceptance.{accepted-one, one-accepted, accepted-two, two-accepted, accepted-as, degree-fits, pair-accepted}
 use Rattle.left.specs.Powers.{composition}
-use Rattle.left.specs.Left.{LeftPart}
 use Rattle.pair.specs.Pairing.{compose, check-left, LeftPartOf, check-split, Splits}
 use Rattle.pair.specs.Pairing as of
 use Rattle.pair.proofs.Fitting.{fits-degrees, degrees-fit}
@@ -44,16 +40,22 @@ use borrow.Author.Tests.{not-false}
 pub compose-determined : (m : ℕ) (g h : List ℕ) {x y : Answer} → x ≡ compose m g h → y ≡ compose m g h → x ≡ y
 compose-determined m g h p q = p ∙ sym q
 
-no-pair-answered : {x : Answer} → x ≡ nothing (refusal Neither NoPair) → x .outcome ≡ Answered → ⊥
-unfolding nothing
-no-pair-answered p q = never (ap (λ (x : Answer). x .outcome) p) q
-
-no-pair-parts : {x : Parts} → x ≡ no-parts (refusal Neither NoPair) → x .outcome ≡ Answered → ⊥
-unfolding no-parts
-no-pair-parts p q = never (ap (λ (x : Parts). x .outcome) p) q
-
 one-refusal : {o : Outcome} {r s : Refusal} → o ≡ Refused r → o ≡ Refused s → Refused r ≡ Refused s
 one-refusal p q = sym p ∙ q
+
+-- r and s fit as s and r do
+pub degrees-swap : {n r s : ℕ} → Degrees n r s → Degrees n s r
+degrees-swap {n} {r} {s} d = record { product = N.mul-comm s r ∙ d .product; within = d .within; two-left = d .two-right; two-right = d .two-left }
+
+-- what is accepted, with degrees that fit, passes the checks of the left part
+pub accepted-left : {m r : ℕ} {f h : List ℕ} → Accepted m f → Accepted m h → Degrees (degree f) r (degree h) → check-left m f h ≡ Answered
+unfolding check-left
+accepted-left a b d = rw (two-accepted a b, degrees-fit (degrees-swap d) .0)
+
+-- and of a split
+pub accepted-split : {m r s : ℕ} {f : List ℕ} → Accepted m f → Degrees (degree f) r s → check-split m f r ≡ Answered
+unfolding check-split
+accepted-split a d = rw (one-accepted a, degrees-fit d .0)
 
 module _ {m : ℕ} {f h : List ℕ} (lf : length f ≡ terms) (lh : length h ≡ terms) where
   -- what passes the checks of the left part
@@ -81,12 +83,6 @@ module _ {m : ℕ} {f h : List ℕ} (lf : length f ≡ terms) (lh : length h ≡
           let (rh, mh, two, l1, one, l2) = accepted-as refl b in
           P.left-equal (omega arith) (omega arith) (l .reduced) (l′ .reduced)
           (record { left = l .monic; right = mh; whole = l .whole }) (record { left = l′ .monic; right = mh; whole = l′ .whole })
-
-  -- a left part is the answer, and the answer is a left part
-  pub left-exact : {x : Answer} → LeftPartOf m f h x → check-left m f h ≡ Answered → (x .outcome ≡ Answered) ↔ ((g : List ℕ) × LeftPart m f (degree f / degree h) h g)
-  left-exact (of.refused e p) k = absurd (never e k)
-  left-exact (of.none e n p) k = (λ z. absurd (no-pair-answered p z), λ (g, l). absurd (n g (l .monic) (l .whole)))
-  left-exact (of.found {g = g} e l p) k = (λ z. (g, l), λ z. ap (λ (x : Answer). x .outcome) p)
 
 module _ {m : ℕ} {f : List ℕ} {r : ℕ} (lf : length f ≡ terms) where
   -- what passes the checks of a split
@@ -121,13 +117,6 @@ module _ {m : ℕ} {f : List ℕ} {r : ℕ} (lf : length f ≡ terms) where
           let (a, w) = split-accepted e in
           let (rf, mf, two, l1, one, l2) = accepted-as refl a in
           P.pair-unique (omega arith) (omega (arith, w .two-left)) (omega (arith, w .two-right)) (coprime-invertible m (omega arith) c) n l
-
-  -- the desk hands out a pair exactly if there is one, whatever its constants
-  pub split-exact : {x : Parts} → Splits m f r x → check-split m f r ≡ Answered → Coprime r m → (x .outcome ≡ Answered) ↔ ((g h : List ℕ) × Pair m f r (degree f / r) g h)
-  split-exact (of.refused e p) k c = absurd (never e k)
-  split-exact (of.shared e d p) k c = absurd (d c)
-  split-exact (of.none e d n p) k c = (λ z. absurd (no-pair-parts p z), λ (g, h, q). absurd (n g h q))
-  split-exact (of.found {g = g} {h = h} e d n p) k c = (λ z. (g, h, n .pair), λ z. ap (λ (x : Parts). x .outcome) p)
 
 -- composing and splitting
 module _ {m : ℕ} {g h : List ℕ} (ag : Accepted m g) (ah : Accepted m h) (fit : degree g * degree h ≤ limit) where
@@ -170,13 +159,9 @@ module _ {m : ℕ} {g h : List ℕ} (ag : Accepted m g) (ah : Accepted m h) (fit
   degrees : Degrees (degree (composition m g h)) (degree g) (degree h)
   degrees = record { product = sym composed-degree; within = rw composed-degree fit; two-left = ag .two; two-right = ah .two }
 
-  checked : check-split m (composition m g h) (degree g) ≡ Answered
-  unfolding check-split
-  checked = rw (one-accepted composed-accepted, degrees-fit degrees .0)
-
   -- the pair comes back
   pub round-trip : Normal m h → Coprime (degree g) m → {y : Parts} → Splits m (compose m g h .polynomial) (degree g) y → y ≡ record { outcome = Answered; left = g; right = h }
-  round-trip z c {y} s = split-determined (composed-reduced .long) (rw composed-is at s) (of.found {g = g} {h = h} checked c pair refl)
+  round-trip z c {y} s = split-determined (composed-reduced .long) (rw composed-is at s) (of.found {g = g} {h = h} (accepted-split composed-accepted degrees) c pair refl)
     where
       pair : NormalPair m (composition m g h) (degree g) (degree (composition m g h) / degree g) g h
       pair = rw (degrees-fit degrees .1) (record {
