@@ -2,7 +2,7 @@
 --
 --   chain-determined               two answers to one call are equal, and so are the areas afterwards
 --   chain-exact                    past 11 and 1 to 4: an answer exactly if n and m share no factor, and No. 5 exactly if they do
---   Complete, chain-complete       demand 2: what the parts of an answer are, and that they stand in the area
+--   Complete, chain-complete       demand 2: what the parts of an answer are, that they stand in the area, and that they are handed out of it
 --   Carries, chain-changed         demand 3: where both are answered, the parts of the changed f are those of f with the change carried
 --                                  from the right, and degrees, tries and price agree
 --   outcome-changed                demand 3: the changed f is answered exactly if f is, and refused by 5 exactly if f is
@@ -27,7 +27,8 @@ use Rattle.refusal.specs.declared.Outcome.the-variants.{Answered}
 use Rattle.refusal.proofs.Outcomes.{never}
 use Rattle.polynomial.specs.Checks.{check-one, Accepted}
 use Rattle.polynomial.proofs.Acceptance.{accepted-one, one-accepted, accepted-as, accepted-changed, degree-fits}
-use Rattle.area.specs.Area.{most-parts, area-words, written}
+use Rattle.area.specs.Area.{most-parts, area-words, written, part-of}
+use Rattle.area.proofs.Reading.{handed-out, EachFills, part-fills, read-back, read-past}
 use Rattle.chain.specs.declared.Chained.{Chained}
 use Rattle.chain.specs.Chaining.{unchained, ChainOf}
 use Rattle.chain.specs.Chaining as of
@@ -70,7 +71,8 @@ module _ {m : ℕ} {f xs ys : List ℕ} {x : Chained} (room : area-words ≤ len
   chain-exact (of.chained l e c k a p) = let o = ap (λ (x : Chained). x .outcome) p in ((λ z. c, λ z. o), (λ z. absurd (never z o), λ z. absurd (z c)))
 
 -- the parts of f, listed from the right: 01's chain with its tries; they compose to f, none splits further, all but the leftmost
--- have constant term 0, there are 1 to `most-parts` of them, and they stand in the area, with zeros in the unused places
+-- have constant term 0, there are 1 to `most-parts` of them, and they stand in the area, with zeros in the unused places: read back
+-- part by part, the area gives these parts, and after the last of them empty ones
 pub record Complete (m : ℕ) (f xs ys : List ℕ) (x : Chained) (parts : List (List ℕ)) : Type 0 where
   pub room : area-words ≤ length xs
   pub accepted : Accepted m f
@@ -86,6 +88,8 @@ pub record Complete (m : ℕ) (f xs ys : List ℕ) (x : Chained) (parts : List (
   pub count : x .parts ≡ length parts
   pub cost : x .price ≡ price parts
   pub area : ys ≡ written xs parts
+  pub handed : handed-out ys (x .parts) ≡ parts
+  pub past : (i : ℕ) → x .parts ≤ i → part-of ys i ≡ []
 
 -- a chain has a part
 chain-some : {m n t : ℕ} {f : List ℕ} {parts : List (List ℕ)} → Chain m n f parts t → 1 ≤ length parts
@@ -100,7 +104,11 @@ chain-complete long (of.refused l e a p) z = absurd (never (ap (λ (x : Chained)
 chain-complete long (of.shared l e n a p) z = absurd (never (ap (λ (x : Chained). x .outcome) p) z)
 chain-complete {m} {f} {xs} {ys} {x} long (of.chained {parts = parts} {t = t} l e c k a p) z =
     let acc = accepted-one long e in
-    let two = modulus-two acc in (
+    let two = modulus-two acc in
+    let is-part = C.chain-part two (acc .two) k in
+    let most = parts-within (acc .two) (degree-fits acc) k in
+    let fills : EachFills parts = λ i l. part-fills two (is-part i l) in
+    let count = ap (λ (x : Chained). x .parts) p in (
       parts,
       record {
         room = l;
@@ -108,15 +116,17 @@ chain-complete {m} {f} {xs} {ys} {x} long (of.chained {parts = parts} {t = t} l 
         coprime = c;
         chain = rw p k;
         composes = C.chain-composed (omega arith) k;
-        is-part = C.chain-part two (acc .two) k;
+        is-part = is-part;
         unsplit = C.chain-unsplit two k;
         normal = C.chain-normal k;
         multiply = C.chain-product two k;
         some = chain-some k;
-        most = parts-within (acc .two) (degree-fits acc) k;
-        count = ap (λ (x : Chained). x .parts) p;
+        most = most;
+        count = count;
         cost = ap (λ (x : Chained). x .price) p;
         area = a;
+        handed = rw (a, count) (read-back xs parts fills most l);
+        past = λ i h. rw a (read-past xs parts fills most l i (omega arith));
       },
     )
 

@@ -1,5 +1,6 @@
 -- Changes of polynomials and pairs that follow each other.
 --
+--   Went, went                             what an answer to a change of a polynomial says, where it is no refusal
 --   identity-polynomial, identity-pair     (1, 0) changes no accepted polynomial, and no accepted normal pair
 --   combined-polynomial, combined-pair     changing by c and then by d is changing by the combined change
 --   undone-polynomial, undone-pair         changing by c and then by what undoes it gives back a polynomial, and a normal pair
@@ -32,13 +33,13 @@ use Rattle.change.proofs.Determined.{modulus-positive, proper-invertibl
 use Rattle.change.proofs.Combining.{identity-proper, combined-proper, undone-proper}
 
 -- what an answer with no refusal says, of a polynomial
-record Went (m : ℕ) (f : List ℕ) (c : Change) (f′ : List ℕ) : Type 0 where
-  passed : check-one m f ≡ Answered
-  proper : Proper m c
-  reduced : Reduced m f′
-  is : Changed m (degree f) (c .unit) (c .origin) f f′
+pub record Went (m : ℕ) (f : List ℕ) (c : Change) (f′ : List ℕ) : Type 0 where
+  pub passed : check-one m f ≡ Answered
+  pub proper : Proper m c
+  pub reduced : Reduced m f′
+  pub is : Changed m (degree f) (c .unit) (c .origin) f f′
 
-went : {m : ℕ} {f : List ℕ} {c : Change} {x : Answer} → ChangesPolynomial m f c x → x .outcome ≡ Answered → Went m f c (x .polynomial)
+pub went : {m : ℕ} {f : List ℕ} {c : Change} {x : Answer} → ChangesPolynomial m f c x → x .outcome ≡ Answered → Went m f c (x .polynomial)
 unfolding nothing
 went (refused e k) o = absurd (true≢false (ap is-refused (rw k at o)))
 went (not-proper a n k) o = absurd (true≢false (ap is-refused (rw k at o)))

@@ -5,21 +5,29 @@
 --   record-answer, compose-answer, left-part-answer, split-answer, change-polynomial-answer, change-pair-answer,
 --   combine-answer, undo-answer, chain-answer, part-answer
 -- Demand 2: the answers are those of Kozen and Landau.
---   split-exact         a pair exactly if some monic g and h of those degrees compose to f, else "no pair"; it is the pair with h(0) = 0
---   left-part-exact     the same of the left part for a given h
---   chain-composes      a chain composes back to f, and none of its parts splits further
+--   split-exact         where r and s fit and r has no factor in common with m: the pair with h(0) = 0, left and right, exactly if some
+--                       monic g and h of those degrees compose to f; else, and exactly if none do, No. 7 with zeros
+--   left-part-exact     the same of the left part for a given h whose degree fits
+--   chain-composes      a chain composes back to f, and none of its parts splits further; the area, read back, gives its parts
 --   round-trip          composing a monic pair with h(0) = 0 and splitting it gives that pair back
 -- Demand 3: changing and then asking gives the same as asking first and carrying the change through the parts.
+--   split-carried       for a single split of what change_polynomial answers: a pair exactly if f has one, and it is what change_pair
+--                       answers; every refusal is that of f, "no pair" included
 --   chain-carried, chain-outcome-carried     same parts but for the change, same degrees, same number of tries, same refusal
---   split-carried       the same for a single split, its "no pair" and every other refusal included
+--   chain-read-back     the same for what change_polynomial answers, over the parts that the two areas hand out
+--   carried-unique      carrying a change through the parts gives one result
 use mathlib.Core.Path.{_≡_, sym, _∙_}
 use mathlib.Core.List.{List}
 use Prim.Native.Nat.{ℕ, _*_, _≤_}
+use native.Mathlib.Omega.{arith}
 use lib.ListN.{length}
 use Rattle.algebra.specs.Number.{Coprime}
 use Rattle.algebra.specs.Polynomial.{degree, terms, limit, Reduced}
 use Rattle.algebra.specs.Pair.{Normal}
 use Rattle.algebra.specs.Change.{Changed}
+use Rattle.algebra.specs.Chain.{Carried}
+use Rattle.algebra.proofs.Factors.{coprime-invertible}
+use Rattle.algebra.proofs.Chains as algebra-law
 use Rattle.refusal.specs.declared.Outcome.the-variants.{Answered}
 use Rattle.polynomial.specs.Checks.{check-one, Accepted}
 use Rattle.polynomial.specs.declared.Answer.{Answer}
@@ -41,7 +49,9 @@ use Rattle.chain.specs.Chaining.{ChainOf}
 use Rattle.chain.proofs.Promises as chain-law
 use Rattle.chain.proofs.Promises.{Complete, Carries}
 use Rattle.desk.proofs.SplitChanged as split-law
-use Rattle.desk.proofs.SplitChanged.{Altered}
+use Rattle.desk.proofs.SplitChanged.{altered, SplitCarried}
+use Rattle.desk.proofs.ChainChanged as read-law
+use Rattle.desk.proofs.ChainChanged.{ChainCarried}
 
 -- Demand 1: two answers to one request are equal, refused ones too
 
@@ -94,9 +104,10 @@ round-trip = pair-law.round-trip
 
 -- Demand 3
 
-pub split-carried : {m : ℕ} {c : Change} {f f′ : List ℕ} → Altered m c f f′ → (r : ℕ) {y z : Parts} → Splits m f r y → Splits m f′ r z
-    → (y .outcome ≡ Answered → (w : Parts) → ChangesPair m (y .left) (y .right) c w → z ≡ w) × ((y .outcome ≡ Answered → ⊥) → z ≡ y)
-split-carried = split-law.split-changed
+-- f′ is what the change of f answers; y and z are the splits of f and of f′
+pub split-carried : {m : ℕ} {c : Change} {f : List ℕ} {w : Answer} → length f ≡ terms → ChangesPolynomial m f c w → w .outcome ≡ Answered
+    → (r : ℕ) {y z : Parts} → Splits m f r y → Splits m (w .polynomial) r z → SplitCarried m c y z
+split-carried long k o = split-law.split-changed (altered long k o)
 
 -- for any f that the chain accepts: the chain of the changed f has the parts with the change carried from the right
 pub chain-carried : {m a b : ℕ} {f f′ xs ys xs′ ys′ : List ℕ} {x x′ : Chained} → length f ≡ terms → Coprime a m → Changed m (degree f) a b f f′
@@ -108,3 +119,12 @@ chain-carried = chain-law.chain-carried
 pub chain-outcome-carried : {m a b : ℕ} {f f′ xs ys xs′ ys′ : List ℕ} {x x′ : Chained} → length f ≡ terms → Coprime a m → Changed m (degree f) a b f f′
     → ChainOf m f xs ys x → ChainOf m f′ xs′ ys′ x′ → Reduced m f′ → area-words ≤ length xs′ → area-words ≤ length xs → check-one m f ≡ Answered → x′ .outcome ≡ x .outcome
 chain-outcome-carried = chain-law.outcome-changed
+
+-- f′ is what the change of f answers; ys and ys′ are the areas of f and of f′ afterwards, read back part by part
+pub chain-read-back : {m : ℕ} {c : Change} {f xs ys xs′ ys′ : List ℕ} {w : Answer} {x x′ : Chained} → length f ≡ terms → ChangesPolynomial m f c w → w .outcome ≡ Answered
+    → area-words ≤ length xs → area-words ≤ length xs′ → ChainOf m f xs ys x → ChainOf m (w .polynomial) xs′ ys′ x′ → ChainCarried m c ys ys′ x x′
+chain-read-back long k o = read-law.chain-changed (altered long k o)
+
+-- so that "the change carried through the parts" is one list of parts
+pub carried-unique : {m a b : ℕ} {parts x y : List (List ℕ)} → 2 ≤ m → Coprime a m → Carried m a b parts x → Carried m a b parts y → x ≡ y
+carried-unique {m} two unit = algebra-law.carried-unique two (coprime-invertible m (omega arith) unit)

@@ -1,8 +1,10 @@
 -- Demand 3 for one split, over the contracts of split and change.
 --
---   split-changed     splitting the changed f gives the changed pair; and every refusal, "no pair" included, is that of f
+--   Altered, altered    f is accepted, and f′ is f changed by c; so is what change_polynomial answers
+--   SplitCarried        what the split of f says of that of f′
+--   split-changed       splitting the changed f gives the changed pair; and every refusal, "no pair" included, is that of f
 use mathlib.Core.Path.{_≡_, refl, sym, ap, _∙_}
-use mathlib.Core.Bool.{not}
+use mathlib.Core.Logic.{_↔_}
 use mathlib.Core.List.{List}
 use Prim.Native.Nat.{ℕ, _/_, _<_}
 use native.Mathlib.Omega.{arith}
@@ -20,6 +22,7 @@ use Rattle.refusal.proofs.Outcomes.{never}
 use Rattle.polynomial.specs.Checks.{check-one, check-pair, Accepted}
 use Rattle.polynomial.specs.Answers.{no-parts}
 use Rattle.polynomial.specs.Degrees.{Degrees}
+use Rattle.polynomial.specs.declared.Answer.{Answer}
 use Rattle.polynomial.specs.declared.Parts.{Parts}
 use Rattle.polynomial.proofs.Acceptance.{accepted-one, one-accepted, accepted-as, pair-accepted, accepted-changed}
 use Rattle.pair.specs.Pairing.{check-split, Splits}
@@ -27,9 +30,10 @@ use Rattle.pair.specs.Pairing as pairing
 use Rattle.pair.proofs.Forcing.{fits-below}
 use Rattle.pair.proofs.Determined.{split-accepted, split-determined}
 use Rattle.change.specs.declared.Change.{Change}
-use Rattle.change.specs.Changing.{Proper, ChangesPair}
+use Rattle.change.specs.Changing.{Proper, ChangesPolynomial, ChangesPair}
 use Rattle.change.specs.Changing as changing
 use Rattle.change.proofs.Determined.{change-pair-determined}
+use Rattle.change.proofs.Following.{went}
 
 -- f is accepted, and f′ is f changed by c
 pub record Altered (m : ℕ) (c : Change) (f f′ : List ℕ) : Type 0 where
@@ -38,6 +42,18 @@ pub record Altered (m : ℕ) (c : Change) (f f′ : List ℕ) : Type 0 where
   pub proper : Proper m c
   pub reduced : Reduced m f′
   pub changed : Changed m (degree f) (c .unit) (c .origin) f f′
+
+-- what the operation answers is f changed by c
+pub altered : {m : ℕ} {c : Change} {f : List ℕ} {w : Answer} → length f ≡ terms → ChangesPolynomial m f c w → w .outcome ≡ Answered → Altered m c f (w .polynomial)
+altered long k o = let s = went k o in record { long = long; accepted = s .passed; proper = s .proper; reduced = s .reduced; changed = s .is }
+
+-- y is the answer for f and z that for f′: a pair for both or for neither; the changed pair is what the desk's change of the pair
+-- answers; every refusal is the same for both, "no pair" included
+pub record SplitCarried (m : ℕ) (c : Change) (y z : Parts) : Type 0 where
+  pub answered : (z .outcome ≡ Answered) ↔ (y .outcome ≡ Answered)
+  pub pair : y .outcome ≡ Answered → ChangesPair m (y .left) (y .right) c z
+  pub same : y .outcome ≡ Answered → (w : Parts) → ChangesPair m (y .left) (y .right) c w → z ≡ w
+  pub refused : (y .outcome ≡ Answered → ⊥) → z ≡ y
 
 module _ {m : ℕ} {c : Change} {f f′ : List ℕ} (x : Altered m c f f′) where
   taken : Accepted m f
@@ -69,9 +85,9 @@ module _ {m : ℕ} {c : Change} {f f′ : List ℕ} (x : Altered m c f f′) whe
     fit = split-accepted (x .long) e .1
 
     -- what the changed pair is, the desk's change of the pair answers
-    changed-pair-is : {g h g′ h′ : List ℕ} {w : Parts} → NormalPair m f r (degree f / r) g h → NormalPair m f′ r (degree f / r) g′ h′
-        → ChangedPair m r (degree f / r) (c .unit) (c .origin) g h g′ h′ → ChangesPair m g h c w → record { outcome = Answered; left = g′; right = h′ } ≡ w
-    changed-pair-is {g} {h} {g′} {h′} p q k a = change-pair-determined (changing.changed {g′ = g′} {h′ = h′} checked (x .proper) (q .reduced-left) (q .reduced-right) (rw (dg, dh) k) refl) a
+    changed-pair-is : {g h g′ h′ : List ℕ} → NormalPair m f r (degree f / r) g h → NormalPair m f′ r (degree f / r) g′ h′
+        → ChangedPair m r (degree f / r) (c .unit) (c .origin) g h g′ h′ → ChangesPair m g h c (record { outcome = Answered; left = g′; right = h′ })
+    changed-pair-is {g} {h} {g′} {h′} p q k = changing.changed {g′ = g′} {h′ = h′} checked (x .proper) (q .reduced-left) (q .reduced-right) (rw (dg, dh) k) refl
       where
         dg : degree g ≡ r
         dg = let o = one in degree-monic (omega arith) (p .reduced-left) (p .pair .left)
@@ -89,26 +105,31 @@ module _ {m : ℕ} {c : Change} {f f′ : List ℕ} (x : Altered m c f f′) whe
   unsplit : (r : ℕ) → check-split m f r ≡ Answered → NoPair m f r (degree f / r) → NoPair m f′ r (degree f / r)
   unsplit r e n = let w = fit r e in P.no-pair-changed pos (omega (arith, w .two-left)) (omega (arith, w .two-right)) (w .product) (coprime-invertible m pos (x .proper .invertible)) (x .changed) .0 n
 
-  -- an answer and a refusal are not the same
-  not-answered : {o : Outcome} {e : Refusal} {y : Parts} → o ≡ Refused e → y ≡ no-parts o → y .outcome ≡ Answered → ⊥
+  -- both are refused, and alike
+  alike : {o : Outcome} {e : Refusal} {y z : Parts} → o ≡ Refused e → y ≡ no-parts o → z ≡ no-parts o → SplitCarried m c y z
   unfolding no-parts
-  not-answered q p a = never (ap (λ (w : Parts). w .outcome) p ∙ q) a
+  alike {o} {e} {y} {z} q p k =
+      let no : y .outcome ≡ Answered → ⊥ = λ a. never (ap (λ (w : Parts). w .outcome) p ∙ q) a in record {
+        answered = (λ a. ap (λ (w : Parts). w .outcome) (p ∙ sym k) ∙ a, λ a. absurd (no a));
+        pair = λ a. absurd (no a);
+        same = λ a. absurd (no a);
+        refused = λ a. k ∙ sym p;
+      }
 
   -- the changed pair of an answer is the answer for the changed f; any other answer is the same for both
-  pub split-changed : (r : ℕ) {y z : Parts} → Splits m f r y → Splits m f′ r z
-      → (y .outcome ≡ Answered → (w : Parts) → ChangesPair m (y .left) (y .right) c w → z ≡ w) × ((y .outcome ≡ Answered → ⊥) → z ≡ y)
-  split-changed r {y} {z} (pairing.refused e p) s =
-      let q = split-determined (x .reduced .long) s (pairing.refused (same-checks r ∙ e) refl) in
-      (λ a. absurd (not-answered refl p a), λ n. q ∙ sym p)
-  split-changed r {y} {z} (pairing.shared e d p) s =
-      let q = split-determined (x .reduced .long) s (pairing.shared (same-checks r ∙ e) d refl) in
-      (λ a. absurd (not-answered refl p a), λ n. q ∙ sym p)
-  split-changed r {y} {z} (pairing.none e d n p) s =
-      let q = split-determined (x .reduced .long) s (pairing.none (same-checks r ∙ e) d (rw same-degree (unsplit r e n)) refl) in
-      (λ a. absurd (not-answered refl p a), λ n. q ∙ sym p)
+  pub split-changed : (r : ℕ) {y z : Parts} → Splits m f r y → Splits m f′ r z → SplitCarried m c y z
+  split-changed r (pairing.refused e p) s = alike refl p (split-determined (x .reduced .long) s (pairing.refused (same-checks r ∙ e) refl))
+  split-changed r (pairing.shared e d p) s = alike refl p (split-determined (x .reduced .long) s (pairing.shared (same-checks r ∙ e) d refl))
+  split-changed r (pairing.none e d n p) s = alike refl p (split-determined (x .reduced .long) s (pairing.none (same-checks r ∙ e) d (rw same-degree (unsplit r e n)) refl))
   split-changed r {y} {z} (pairing.found {g = g} {h = h} e d n p) s =
       let w = fit r e in
       let (g′, h′, k, n′) = P.changed-pair-exists pos (omega (arith, w .two-left)) (omega (arith, w .two-right)) (fits-below w .0) (fits-below w .1) (w .product)
       (coprime-invertible m pos (x .proper .invertible)) (n .pair) (x .changed) in
       let q = split-determined (x .reduced .long) s (pairing.found {g = g′} {h = h′} (same-checks r ∙ e) d (rw same-degree n′) refl) in
-      (λ a v b. q ∙ changed-pair-is r e n n′ k (rw p at b), λ b. absurd (b (ap (λ (v : Parts). v .outcome) p)))
+      let o = ap (λ (v : Parts). v .outcome) p in
+      let is : ChangesPair m (y .left) (y .right) c z = rw (p, q) (changed-pair-is r e n n′ k) in record {
+        answered = (λ a. o, λ a. ap (λ (v : Parts). v .outcome) q);
+        pair = λ a. is;
+        same = λ a v b. change-pair-determined is b;
+        refused = λ b. absurd (b o);
+      }
