@@ -1,5 +1,6 @@
 pub mod Answers
 pub mod SplitChanged
-pub mod Demands
-pub mod Worked
 pub mod ChainChanged
+pub mod Demands
+pub mod Padded
+pub mod Worked

@@ -1,65 +1,82 @@
--- The starred worked polynomials of 01, as one table of claims over the definitions.
+-- The starred worked polynomials of 01, as one table of claims over the contracts of the operations.
 --
+--   padded p         p as the desk holds it: `terms` places, zeros after those of p
 --   Claim            what 01 says of a worked polynomial
---   Holds c          what the claim says
+--   Holds c          what the claim says: the answer that the operation's contract allows, all of it
 --   All l            every claim of the list holds
 --   starred          the table: A, B, C, D, F, G, H, I, J
-use mathlib.Core.List.{List, [], _∷_}
-use Prim.Native.Nat.{ℕ, _*_}
-use Rattle.algebra.specs.Number.{Coprime}
-use Rattle.algebra.specs.Polynomial.{after, Same, Monic}
-use Rattle.algebra.specs.Pair.{Pair, Normal, NoPair}
-use Rattle.algebra.specs.Change.{Changed, ChangedPair}
+use mathlib.Core.Path.{_≡_}
+use mathlib.Core.List.{List, [], _∷_, _++_}
+use Prim.Native.Nat.{ℕ, _-_}
+use lib.ListN.{length, replicate}
+use Rattle.algebra.specs.Polynomial.{terms}
+use Rattle.refusal.specs.Refusal.{refusal, number}
+use Rattle.refusal.specs.declared.Concerns.the-variants.{Neither}
+use Rattle.refusal.specs.declared.Reason.{Reason}
+use Rattle.refusal.specs.declared.Outcome.the-variants.{Answered}
+use Rattle.polynomial.specs.Answers.{nothing, no-parts}
+use Rattle.pair.specs.Pairing.{compose, LeftPartOf, Splits}
+use Rattle.change.specs.Changing.{ChangesPolynomial}
+
+-- zeros up to the desk's number of places
+unfoldable pub padded : List ℕ → List ℕ
+padded p = p ++ replicate (terms - length p) 0
 
 pub data Claim : Type 0 where
+  splits : ℕ → List ℕ → ℕ → List ℕ → List ℕ → Claim
+  split-refused : ℕ → List ℕ → ℕ → ℕ → Claim
+  left-part : ℕ → List ℕ → List ℕ → List ℕ → Claim
+  left-refused : ℕ → List ℕ → List ℕ → ℕ → Claim
+  changes : ℕ → List ℕ → ℕ → ℕ → List ℕ → Claim
   composes : ℕ → List ℕ → List ℕ → List ℕ → Claim
-  pair : ℕ → List ℕ → ℕ → ℕ → List ℕ → List ℕ → Claim
-  no-pair : ℕ → List ℕ → ℕ → ℕ → Claim
-  shared : ℕ → ℕ → Claim
-  left : ℕ → List ℕ → ℕ → List ℕ → List ℕ → Claim
-  no-left : ℕ → List ℕ → ℕ → List ℕ → Claim
-  changed : ℕ → ℕ → ℕ → ℕ → List ℕ → List ℕ → Claim
 
--- composes: g after h is f. pair: the normal pair. shared: No. 5. left, no-left: for a given h. changed: f changed by (a, b)
-abbrev pub Holds : Claim → Type 0
-Holds (composes m g h f) = Same m f (after g h)
-Holds (pair m f r s g h) = Pair m f r s g h × Normal m h
-Holds (no-pair m f r s) = NoPair m f r s
-Holds (shared r m) = Coprime r m → ⊥
-Holds (left m f r h g) = Monic m r g × Same m f (after g h)
-Holds (no-left m f r h) = (g : List ℕ) → Monic m r g → Same m f (after g h) → ⊥
-Holds (changed m n a b f f′) = Changed m n a b f f′
+-- f split at r gives g and h, or is refused by No. n; the left part of f for h is g, or is refused; f changed by (a, b) is f′; g after h is f
+pub data Holds : Claim → Type 0 where
+  split-is : {m r : ℕ} {f g h : List ℕ} → Splits m (padded f) r (record { outcome = Answered; left = padded g; right = padded h })
+      → Holds (splits m f r g h)
+  split-is-refused : {m r : ℕ} {f : List ℕ} (e : Reason) → Splits m (padded f) r (no-parts (refusal Neither e))
+      → Holds (split-refused m f r (number e))
+  left-part-is : {m : ℕ} {f h g : List ℕ} → LeftPartOf m (padded f) (padded h) (record { outcome = Answered; polynomial = padded g })
+      → Holds (left-part m f h g)
+  left-is-refused : {m : ℕ} {f h : List ℕ} (e : Reason) → LeftPartOf m (padded f) (padded h) (nothing (refusal Neither e))
+      → Holds (left-refused m f h (number e))
+  change-is : {m a b : ℕ} {f f′ : List ℕ} → ChangesPolynomial m (padded f) (record { unit = a; origin = b }) (record { outcome = Answered; polynomial = padded f′ })
+      → Holds (changes m f a b f′)
+  composition-is : {m : ℕ} {g h f : List ℕ} → compose m (padded g) (padded h) ≡ record { outcome = Answered; polynomial = padded f }
+      → Holds (composes m g h f)
 
 -- every one
-abbrev pub All : List Claim → Type 0
-All [] = Unit
-All (c ∷ l) = Holds c × All l
+infixr 20 _and_
+pub data All : List Claim → Type 0 where
+  none : All []
+  _and_ : {c : Claim} {l : List Claim} → Holds c → All l → All (c ∷ l)
 
-abbrev A : List ℕ
+-- the polynomials that more than one row names
+abbrev pub A : List ℕ
 A = 10 ∷ 3 ∷ 6 ∷ 7 ∷ 6 ∷ 3 ∷ 1 ∷ []
 
-abbrev B : List ℕ
+abbrev pub B : List ℕ
 B = 96 ∷ 3 ∷ 9 ∷ 1 ∷ 6 ∷ 0 ∷ 1 ∷ []
 
-abbrev H : List ℕ
+abbrev pub H : List ℕ
 H = 1 ∷ 1 ∷ 0 ∷ 0 ∷ 1 ∷ []
 
 -- 01's values, constant term first
 abbrev pub starred : List Claim
 starred =
-    pair 101 A 3 2 (10 ∷ 3 ∷ 3 ∷ 1 ∷ []) (0 ∷ 1 ∷ 1 ∷ []) ∷
-    no-pair 101 A 2 3 ∷
-    no-pair 101 B 3 2 ∷
-    pair 101 B 2 3 (96 ∷ 1 ∷ 1 ∷ []) (0 ∷ 3 ∷ 0 ∷ 1 ∷ []) ∷
-    left 101 A 3 (1 ∷ 1 ∷ 1 ∷ []) (9 ∷ 0 ∷ 0 ∷ 1 ∷ []) ∷
-    pair 4 (0 ∷ 0 ∷ 0 ∷ 0 ∷ 0 ∷ 0 ∷ 1 ∷ 3 ∷ 3 ∷ 1 ∷ []) 3 3 (0 ∷ 0 ∷ 0 ∷ 1 ∷ []) (0 ∷ 0 ∷ 1 ∷ 1 ∷ []) ∷
-    changed 101 4 1 1 (1 ∷ 0 ∷ 0 ∷ 0 ∷ 1 ∷ []) (2 ∷ 4 ∷ 6 ∷ 4 ∷ 1 ∷ []) ∷
-    pair 101 (2 ∷ 4 ∷ 6 ∷ 4 ∷ 1 ∷ []) 2 2 (2 ∷ 2 ∷ 1 ∷ []) (0 ∷ 2 ∷ 1 ∷ []) ∷
-    changed 5 4 2 0 (0 ∷ 0 ∷ 1 ∷ 0 ∷ 1 ∷ []) (0 ∷ 0 ∷ 4 ∷ 0 ∷ 1 ∷ []) ∷
-    pair 5 (0 ∷ 0 ∷ 4 ∷ 0 ∷ 1 ∷ []) 2 2 (0 ∷ 4 ∷ 1 ∷ []) (0 ∷ 0 ∷ 1 ∷ []) ∷
-    shared 2 2 ∷
-    left 2 H 2 (0 ∷ 1 ∷ 1 ∷ []) (1 ∷ 1 ∷ 1 ∷ []) ∷
-    no-left 2 (1 ∷ 0 ∷ 0 ∷ 1 ∷ 1 ∷ []) 2 (0 ∷ 1 ∷ 1 ∷ []) ∷
+    splits 101 A 3 (10 ∷ 3 ∷ 3 ∷ 1 ∷ []) (0 ∷ 1 ∷ 1 ∷ []) ∷
+    split-refused 101 A 2 7 ∷
+    split-refused 101 B 3 7 ∷
+    splits 101 B 2 (96 ∷ 1 ∷ 1 ∷ []) (0 ∷ 3 ∷ 0 ∷ 1 ∷ []) ∷
+    left-part 101 A (1 ∷ 1 ∷ 1 ∷ []) (9 ∷ 0 ∷ 0 ∷ 1 ∷ []) ∷
+    splits 4 (0 ∷ 0 ∷ 0 ∷ 0 ∷ 0 ∷ 0 ∷ 1 ∷ 3 ∷ 3 ∷ 1 ∷ []) 3 (0 ∷ 0 ∷ 0 ∷ 1 ∷ []) (0 ∷ 0 ∷ 1 ∷ 1 ∷ []) ∷
+    changes 101 (1 ∷ 0 ∷ 0 ∷ 0 ∷ 1 ∷ []) 1 1 (2 ∷ 4 ∷ 6 ∷ 4 ∷ 1 ∷ []) ∷
+    splits 101 (2 ∷ 4 ∷ 6 ∷ 4 ∷ 1 ∷ []) 2 (2 ∷ 2 ∷ 1 ∷ []) (0 ∷ 2 ∷ 1 ∷ []) ∷
+    changes 5 (0 ∷ 0 ∷ 1 ∷ 0 ∷ 1 ∷ []) 2 0 (0 ∷ 0 ∷ 4 ∷ 0 ∷ 1 ∷ []) ∷
+    splits 5 (0 ∷ 0 ∷ 4 ∷ 0 ∷ 1 ∷ []) 2 (0 ∷ 4 ∷ 1 ∷ []) (0 ∷ 0 ∷ 1 ∷ []) ∷
+    split-refused 2 H 2 5 ∷
+    left-part 2 H (0 ∷ 1 ∷ 1 ∷ []) (1 ∷ 1 ∷ 1 ∷ []) ∷
+    left-refused 2 (1 ∷ 0 ∷ 0 ∷ 1 ∷ 1 ∷ []) (0 ∷ 1 ∷ 1 ∷ []) 7 ∷
     composes 2 (0 ∷ 1 ∷ 1 ∷ []) (0 ∷ 0 ∷ 1 ∷ []) (0 ∷ 0 ∷ 1 ∷ 0 ∷ 1 ∷ []) ∷
     composes 2 (0 ∷ 0 ∷ 1 ∷ []) (0 ∷ 1 ∷ 1 ∷ []) (0 ∷ 0 ∷ 1 ∷ 0 ∷ 1 ∷ []) ∷
     []

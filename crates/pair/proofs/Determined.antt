@@ -129,7 +129,7 @@ module _ {m : ℕ} {g h : List ℕ} (ag : Accepted m g) (ah : Accepted m h) (fit
   whole : Monic m (degree g * degree h) (after g h)
   whole = let (rh, mh, two, l1, m1, l2) = accepted-as refl ah in after-monic m pos (omega arith) (ag .monic) mh
 
-  composed-is : compose m g h ≡ record { outcome = Answered; polynomial = composition m g h }
+  pub composed-is : compose m g h ≡ record { outcome = Answered; polynomial = composition m g h }
   unfolding compose
   composed-is = rw (pair-accepted ag ah fit)
 

@@ -1,0 +1,133 @@
+-- Polynomials of a few places as the desk holds them, and what the operations answer for them.
+--
+--   padded-at, padded-same                  padding adds no coefficient
+--   Held m n p, held                        the desk takes p, padded, and n is its degree: by computation
+--   split-found, split-none, split-shared   the answer to a split of f, padded, from a pair, from "no pair", from a shared factor
+--   left-found, left-none                   the answer to: the left part of f for h
+--   changes-to                              the answer to a change of f
+--   composes-to                             the answer to: compose g and h
+use mathlib.Core.Path.{_≡_, refl, sym, ap, _∙_}
+use mathlib.Core.Bool.{true}
+use mathlib.Core.List.{List, [], _∷_, _++_}
+use Prim.Native.Nat.{ℕ, zero, suc, _*_, _-_, _%_, _^_, _≤_, _<_}
+use native.Mathlib.Omega.{arith}
+use borrow.Author.Tests.{ltb-true}
+use lib.Dec.{ltb}
+use lib.ListN.{length, replicate}
+use Rattle.algebra.specs.Number.{Coprime, Invertible}
+use Rattle.algebra.specs.Polynomial.{coef, after, degree, terms, limit, Same, Monic}
+use Rattle.algebra.specs.Pair.{Normal}
+use Rattle.algebra.specs.Pair as pair
+use Rattle.algebra.specs.Change.{Changed}
+use Rattle.algebra.proofs.Polynomials.{_⨾_, same-refl, same-sym, after-same, scaled-same}
+use Rattle.algebra.proofs.Reduction.{reduced-equal}
+use Rattle.algebra.proofs.Factors.{invertible-coprime}
+use Rattle.refusal.specs.declared.Reason.the-variants.{Factor, NoPair}
+use Rattle.refusal.specs.declared.Outcome.the-variants.{Answered}
+use Rattle.polynomial.specs.Checks.{check-one, Accepted}
+use Rattle.polynomial.specs.Degrees.{Degrees}
+use Rattle.polynomial.proofs.Acceptance.{accepted-one, one-accepted, degree-fits}
+use Rattle.left.specs.Left.{NoLeft}
+use Rattle.left.specs.Powers.{composition}
+use Rattle.pair.specs.Pairing as pairing
+use Rattle.pair.proofs.Fitting.{degrees-fit}
+use Rattle.pair.proofs.Determined.{degrees-swap, accepted-left, accepted-split, composed-is, composed-reduced, composed-same}
+use Rattle.change.specs.Changing as changing
+use Rattle.desk.specs.Cases.{padded, splits, split-refused, left-part, left-refused, changes, composes, Holds, split-is, split-is-refused, left-part-is, left-is-refused, change-is, composition-is}
+
+zeros-at : (k i : ℕ) → coef (replicate k 0) i ≡ 0
+zeros-at zero i = refl
+zeros-at (suc k) zero = refl
+zeros-at (suc k) (suc i) = zeros-at k i
+
+zeros-after : (p : List ℕ) (k i : ℕ) → coef (p ++ replicate k 0) i ≡ coef p i
+zeros-after [] k i = zeros-at k i
+zeros-after (a ∷ p) k zero = refl
+zeros-after (a ∷ p) k (suc i) = zeros-after p k i
+
+-- padding adds no coefficient
+pub padded-at : (p : List ℕ) (i : ℕ) → coef (padded p) i ≡ coef p i
+unfolding padded
+padded-at p i = zeros-after p (terms - length p) i
+
+pub padded-same : {m : ℕ} (p : List ℕ) → Same m p (padded p)
+padded-same {m} p = record { at = λ i. ap (λ (c : ℕ). c % m) (sym (padded-at p i)) }
+
+-- the desk takes p, padded, and n is its degree
+pub record Held (m n : ℕ) (p : List ℕ) : Type 0 where
+  pub accepted : Accepted m (padded p)
+  pub has : degree (padded p) ≡ n
+
+pub held : (m n : ℕ) (p : List ℕ) → length (padded p) ≡ terms → check-one m (padded p) ≡ Answered → degree (padded p) ≡ n → Held m n p
+held m n p l e d = record { accepted = accepted-one l e; has = d }
+
+module _ {m n : ℕ} {p : List ℕ} (a : Held m n p) where
+  positive : 0 < m
+  unfolding terms
+  positive = omega (arith, a .accepted .reduced .below 0 (omega arith))
+
+  monic : Monic m n (padded p)
+  monic = rw (a .has) at (a .accepted .monic)
+
+  two : 2 ≤ n
+  two = rw (a .has) at (a .accepted .two)
+
+-- f = g(h), padded
+composed-padded : {m : ℕ} → 0 < m → (f g h : List ℕ) → Same m f (after g h) → Same m (padded f) (after (padded g) (padded h))
+composed-padded {m} pos f g h w = same-sym (padded-same f) ⨾ w ⨾ after-same m pos (padded-same g) (padded-same h)
+
+-- degrees that multiply to that of f fit
+fit : {m n r s : ℕ} {f : List ℕ} → Held m n f → 2 ≤ r → 2 ≤ s → r * s ≡ n → Degrees (degree (padded f)) r s
+fit a l k e = record { product = e ∙ sym (a .has); within = degree-fits (a .accepted); two-left = l; two-right = k }
+
+module _ {m n r s : ℕ} {f : List ℕ} (a : Held m n f) (l : 2 ≤ r) (k : 2 ≤ s) (e : r * s ≡ n) where
+  pub split-shared : (Coprime r m → ⊥) → Holds (split-refused m f r 5)
+  split-shared d = split-is-refused Factor (pairing.shared (accepted-split (a .accepted) (fit a l k e)) d refl)
+
+  pub split-none : Invertible m r → pair.NoPair m f r s → Holds (split-refused m f r 7)
+  split-none i n = split-is-refused NoPair (pairing.none (accepted-split (a .accepted) (fit a l k e)) (invertible-coprime m (positive a) i)
+      (rw (degrees-fit (fit a l k e) .1) (λ g h p. n g h (record { left = p .left; right = p .right; whole = padded-same f ⨾ p .whole }))) refl)
+
+pub split-found : {m n r s : ℕ} {f g h : List ℕ} → Held m n f → Held m r g → Held m s h → r * s ≡ n → Invertible m r → Normal m h → Same m f (after g h)
+    → Holds (splits m f r g h)
+split-found {m} {n} {r} {s} {f} {g} {h} a b c e i z w =
+    let d = fit a (two b) (two c) e in
+    split-is (pairing.found {g = padded g} {h = padded h} (accepted-split (a .accepted) d) (invertible-coprime m (positive a) i)
+    (rw (degrees-fit d .1) (record {
+      pair = record { left = monic b; right = monic c; whole = composed-padded (positive a) f g h w };
+      normal = record { constant = ap (λ (x : ℕ). x % m) (padded-at h 0) ∙ z .constant };
+      reduced-left = b .accepted .reduced;
+      reduced-right = c .accepted .reduced;
+    })) refl)
+
+module _ {m n r s : ℕ} {f h : List ℕ} (a : Held m n f) (b : Held m s h) (l : 2 ≤ r) (e : r * s ≡ n) where
+  fits-for : Degrees (degree (padded f)) r (degree (padded h))
+  fits-for = rw (b .has) (fit a l (two b) e)
+
+  pub left-none : NoLeft m f r h → Holds (left-refused m f h 7)
+  left-none n = left-is-refused NoPair (pairing.none (accepted-left (a .accepted) (b .accepted) fits-for)
+      (rw (degrees-fit (degrees-swap fits-for) .1) (λ g k w. n g k (padded-same f ⨾ w ⨾ after-same m (positive a) (same-refl g) (same-sym (padded-same h))))) refl)
+
+pub left-found : {m n r s : ℕ} {f h g : List ℕ} → Held m n f → Held m s h → Held m r g → r * s ≡ n → Same m f (after g h) → Holds (left-part m f h g)
+left-found {m} {f = f} {h = h} {g = g} a b c e w =
+    let d = fits-for a b (two c) e in
+    left-part-is (pairing.found {g = padded g} (accepted-left (a .accepted) (b .accepted) d)
+    (rw (degrees-fit (degrees-swap d) .1) (record { reduced = c .accepted .reduced; monic = monic c; whole = composed-padded (positive a) f g h w })) refl)
+
+pub changes-to : {m n a b : ℕ} {f f′ : List ℕ} → Held m n f → Held m n f′ → ltb a m ≡ true → ltb b m ≡ true → Invertible m a → Changed m n a b f f′ → Holds (changes m f a b f′)
+changes-to {m} {n} {a} {b} {f} {f′} x y l k i c = change-is (changing.changed {f′ = padded f′} (one-accepted (x .accepted))
+    (record { unit-below = ltb-true a m l; origin-below = ltb-true b m k; invertible = invertible-coprime m (positive x) i }) (y .accepted .reduced)
+    (rw (x .has) (record {
+      same = scaled-same m (positive x) (a ^ n) (same-sym (padded-same f′)) ⨾ c .same ⨾ after-same m (positive x) (padded-same f) (same-refl (b ∷ a ∷ []));
+    })) refl)
+
+pub composes-to : {m n r s : ℕ} {g h f : List ℕ} → Held m r g → Held m s h → Held m n f → r * s ≡ n → Same m f (after g h) → Holds (composes m g h f)
+composes-to {m} {n} {r} {s} {g} {h} {f} b c a e w =
+    composition-is (composed-is (b .accepted) (c .accepted) within ∙ ap (λ (p : List ℕ). record { outcome = Answered; polynomial = p }) same)
+  where
+    within : degree (padded g) * degree (padded h) ≤ limit
+    within = rw (b .has, c .has, e, ← a .has) (degree-fits (a .accepted))
+
+    same : composition m (padded g) (padded h) ≡ padded f
+    same = reduced-equal (composed-reduced (b .accepted) (c .accepted) within) (a .accepted .reduced)
+        (same-sym (composed-same (b .accepted) (c .accepted) within) ⨾ same-sym (composed-padded (positive a) f g h w))
