@@ -4,8 +4,9 @@
 --   left-part-determined     two answers to: the left part, are equal
 --   split-determined         two answers to: a split, are equal
 --   split-accepted           what passes the checks of a split
---   accepted-left, accepted-split         what is accepted, with degrees that fit, passes the checks of the left part, of a split
---   composed-reduced, composed-same       the composed polynomial is reduced, and is g(h)
+--   degrees-swap             r and s fit as s and r do
+--   accepted-left, accepted-split                      what is accepted, with degrees that fit, passes the checks of the left part, of a split
+--   composed-is, composed-reduced, composed-same       what is answered for a pair within the limit; it is reduced, and is g(h)
 --   round-trip               composing a pair with h(0) = 0 and splitting it at r gives that pair back
 use mathlib.Core.Path.{_≡_, refl, sym, ap, ap₂, _∙_}
 use mathlib.Core.List.{List}
