@@ -1,31 +1,35 @@
 use mathlib.Core.Path.{_≡_}
-use Prim.Native.Nat.{_-_, _%_, _≤_}
-use native.Mathlib.Omega.{arith}
+use Prim.Native.Nat.{_-_, _≤_}
 use borrow.Author.Needs.{needs}
-use Rattle.listing.specs.Listing.{most-records}
-use Rattle.list.specs.Most.{most-listed}
+use lib.ListN.{length}
+use Rattle.algebra.specs.Polynomial.{terms, limit}
+use Rattle.area.specs.Area.{most-parts}
+use Rattle.record.specs.Record.{record-bytes}
+use Rattle.listing.specs.Text.{most-digits, most-field, before-degrees, most-line}
+use Rattle.listing.specs.Listing.{most-records, most-lines}
+use Rattle.list.specs.Reading.{most-listed, most-read, buffer-bytes}
 use Rattle.list.proofs.main.Statement.{statement}
 use Rattle.list.proofs.main.Tie as tie
 
 abbrev Inv-loop : tie.InvT-loop
-Inv-loop listed₀ listed = (listed % most-records ≡ 0) × (listed ≤ most-listed)
+Inv-loop buf₀ out₀ taken₀ buf out taken = (taken ≤ most-read) × (length buf ≡ buffer-bytes) × (length out ≡ most-lines)
 
 abbrev μ-loop : tie.MeasureT-loop
-μ-loop listed₀ listed = most-listed - listed
+μ-loop buf₀ out₀ taken₀ buf out taken = most-read - taken
 
 pub main-spec : {M : Type 1} → statement M
-unfolding most-records most-listed
+unfolding most-read most-listed buffer-bytes most-lines most-line before-degrees most-field most-digits most-parts most-records record-bytes terms limit
 main-spec =
     tie.close
     (tie.spec
     Inv-loop
     μ-loop
-    (λ c. omega arith)
-    (λ c. omega arith)
-    (λ c κs. omega arith)
     (λ c. search needs)
     (λ c. search needs)
-    (λ c. omega arith)
-    (λ c. omega arith)
-    (λ c. omega arith)
+    (λ c. search needs)
+    (λ c κs. search needs)
+    (λ c. search needs)
+    (λ c. search needs)
+    (λ c. search needs)
+    (λ c. search needs)
     (λ c. search needs))
