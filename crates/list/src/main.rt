@@ -79,7 +79,8 @@ fn keep(buf: &mut [u8], from: usize, n: usize)
 // What a read that brought `more` bytes leads to, after `taken` bytes: lines in out, whose length is the answer, and the bytes that
 // are not listed yet, fewer than a record, at the front of buf.
 fn step(taken: usize, more: usize, buf: &mut [u8], out: &mut [u8]) -> usize
-    requires { ⌜ (taken < most-read) × (taken + more ≤ most-read) × (taken % record-bytes + more ≤ length (now buf)) × (length (now buf) ≡ buffer-bytes) × (most-lines ≤ length (now out)) ⌝ }
+    requires { ⌜ (taken < most-read) × (taken + more ≤ most-read) × (taken % record-bytes + more ≤ buffer-bytes)
+        × (length (now buf) ≡ buffer-bytes) × (most-lines ≤ length (now out)) ⌝ }
     ensures { λ r. ⌜ Step taken more (now (buf .entry)) (now (buf .exit)) (now (out .entry)) (now (out .exit)) r ⌝ }
 {
     let kept = taken % record::BYTES;
