@@ -6,7 +6,7 @@
 --   number-after taken    the number of the record that is next, or begun, after `taken` bytes
 --   End taken r           reading into the buffer ends at index r after `taken` bytes
 --   upto kept more        how many bytes are listed where `more` have come after `kept`
---   moved xs from n       xs after its n elements from index `from` on were put at the front
+--   to-front xs from n    xs after its n elements from index `from` on were put at the front
 --   Step taken more xs ys out out′ r
 --                         what a read that brings `more` bytes leads to after `taken`: from the buffer xs to lines, and to the buffer ys
 use mathlib.Core.Path.{_≡_}
@@ -44,11 +44,11 @@ pub record End (taken r : ℕ) : Type 0 where
 unfoldable pub upto : ℕ → ℕ → ℕ
 upto kept more = cond (eqb more 0) kept (kept + more - (kept + more) % record-bytes)
 
--- from index n on nothing has changed
-unfoldable pub moved : List ℕ → ℕ → ℕ → List ℕ
-moved xs from n = take n (drop from xs) ++ drop n xs
+-- the n elements stand at the front, and what lies behind them has not changed
+unfoldable pub to-front : List ℕ → ℕ → ℕ → List ℕ
+to-front xs from n = take n (drop from xs) ++ drop n xs
 
 -- lines for the bytes that are listed, numbered on, and the rest at the front
 pub record Step (taken more : ℕ) (xs ys out out′ : List ℕ) (r : ℕ) : Type 0 where
   pub lines : LinesIn (take (upto (taken % record-bytes) more) xs) (number-after taken) out out′ r
-  pub rest : ys ≡ moved xs (upto (taken % record-bytes) more) (taken % record-bytes + more - upto (taken % record-bytes) more)
+  pub rest : ys ≡ to-front xs (upto (taken % record-bytes) more) (taken % record-bytes + more - upto (taken % record-bytes) more)

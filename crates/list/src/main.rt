@@ -4,7 +4,7 @@ ghost use Prim.Native.Nat.{_+_, _%_, _<_, _≤_};
 ghost use lib.ListN.{length};
 ghost use Rattle.record.specs.Record.{record-bytes};
 ghost use Rattle.listing.specs.Listing.{most-lines};
-ghost use Rattle.list.specs.Reading.{most-read, buffer-bytes, End, number-after, upto, moved, Step};
+ghost use Rattle.list.specs.Reading.{most-read, buffer-bytes, End, number-after, upto, to-front, Step};
 use libc::STDERR_FILENO;
 use libc::STDIN_FILENO;
 use libc::STDOUT_FILENO;
@@ -67,7 +67,7 @@ fn listed(kept: usize, more: usize) -> usize
 // Moves n bytes from index `from` on to the front.
 fn keep(buf: &mut [u8], from: usize, n: usize)
     requires { ⌜ from + n ≤ length (now buf) ⌝ }
-    ensures { λ _. ⌜ now (buf .exit) ≡ moved (now (buf .entry)) from n ⌝ }
+    ensures { λ _. ⌜ now (buf .exit) ≡ to-front (now (buf .entry)) from n ⌝ }
 {
     let mut i = 0;
     while i < n {

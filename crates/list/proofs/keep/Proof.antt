@@ -3,26 +3,26 @@ use Prim.Native.Nat.{_≤_, _-_}
 use native.Mathlib.Omega.{arith}
 use borrow.Author.Needs.{needs}
 use lib.ListN.{length, length-set}
-use Rattle.list.specs.Reading.{moved}
-use Rattle.list.proofs.Moving.{moved-more}
+use Rattle.list.specs.Reading.{to-front}
+use Rattle.list.proofs.Front.{to-front-more}
 use Rattle.list.proofs.keep.Statement.{statement}
 use Rattle.list.proofs.keep.Tie as tie
 
 abbrev Inv-loop : tie.InvT-loop
-Inv-loop buf₀ from n i₀ buf i = (i ≤ n) × (length buf ≡ length buf₀) × (buf ≡ moved buf₀ from i)
+Inv-loop buf₀ from n i₀ buf i = (i ≤ n) × (length buf ≡ length buf₀) × (buf ≡ to-front buf₀ from i)
 
 abbrev μ-loop : tie.MeasureT-loop
 μ-loop buf₀ from n i₀ buf i = n - i
 
 loop-holds : tie.Need-loop-holds Inv-loop μ-loop
-unfolding moved
+unfolding to-front
 loop-holds c = (search needs, search needs, refl)
 
 loop-again : tie.Need-loop-again Inv-loop μ-loop
 loop-again c =
     let l = c .before .before .loop in
     let a = c .before .before .before .args in
-    (search needs, simp length-set (l .inv .1), rw (l .inv .2) (moved-more (a .buf .now) (a .from) (l .i) (omega arith)))
+    (search needs, simp length-set (l .inv .1), rw (l .inv .2) (to-front-more (a .buf .now) (a .from) (l .i) (omega arith)))
 
 returns : tie.Need-returns Inv-loop μ-loop
 returns c =
