@@ -15,16 +15,16 @@ use Rattle.algebra.proofs.Ring as A
 use Rattle.algebra.proofs.Series as S
 use Rattle.algebra.specs.Number.{choose}
 
-pub choose-zero : (j : ℕ) → choose j 0 ≡ 1
+choose-zero : (j : ℕ) → choose j 0 ≡ 1
 unfolding choose
 choose-zero zero = refl
 choose-zero (suc j) = refl
 
-pub choose-suc : (j i : ℕ) → choose (suc j) (suc i) ≡ choose j i + choose j (suc i)
+choose-suc : (j i : ℕ) → choose (suc j) (suc i) ≡ choose j i + choose j (suc i)
 unfolding choose
 choose-suc j i = refl
 
-pub choose-above : (j i : ℕ) → j < i → choose j i ≡ 0
+choose-above : (j i : ℕ) → j < i → choose j i ≡ 0
 unfolding choose
 choose-above j zero l = absurd (N.not-suc-le-zero l)
 choose-above zero (suc i) l = refl

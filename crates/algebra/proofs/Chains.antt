@@ -9,12 +9,12 @@
 --   chain-changed, chains-changed         the chain of the changed f is the carried one, with the same degrees, tries and price
 use mathlib.Core.Path.{_≡_, refl, sym, ap, ap₂, subst, _∙_}
 use mathlib.Core.List.{List, [], _∷_}
-use Prim.Native.Nat.{ℕ, zero, suc, _+_, _*_, _^_, _-_, _≤_, _<_}
+use Prim.Native.Nat.{ℕ, zero, suc, _+_, _*_, _^_, _≤_, _<_}
 use native.Mathlib.Nat as N
 use native.Mathlib.Omega.{arith}
 use native.Mathlib.Decide.{decLt}
 use lib.ListN.{length}
-use Rattle.algebra.specs.Polynomial.{value, degree, Same, Monic, Reduced, terms}
+use Rattle.algebra.specs.Polynomial.{value, Same, Monic, Reduced, terms}
 use Rattle.algebra.specs.Number.{Invertible}
 use Rattle.algebra.specs.Pair.{Pair, Normal, NormalPair, NoPair, SplitsRight, Unsplit}
 use Rattle.algebra.specs.Change.{Changed, ChangedRight}
@@ -64,7 +64,7 @@ module _ {m : ℕ} (pos : 0 < m) where
       let (v, o) = chain-unique (invertible-left s i e) k (subst (λ (q : List ℕ). Chain m r q parts′ t′) z (subst (λ (q : ℕ). Chain m q g′ parts′ t′) x k′)) in
       (ap₂ _∷_ (sym w) v, ap₂ _+_ (ap (tested n) (sym y)) o)
 
-pub chain-monic : {m n t : ℕ} {f : List ℕ} {parts : List (List ℕ)} → 0 < m → Chain m n f parts t → Monic m n f
+chain-monic : {m n t : ℕ} {f : List ℕ} {parts : List (List ℕ)} → 0 < m → Chain m n f parts t → Monic m n f
 chain-monic pos (whole a b none) = a
 chain-monic {m} pos (step {r = r} {s = s} {f = f} a b e first p k) =
     subst (λ (n : ℕ). Monic m n f) e (monic-same m pos (same-sym (p .pair .whole)) (after-monic m pos (omega arith) (p .pair .left) (p .pair .right)))

@@ -15,14 +15,14 @@ use mathlib.Core.List.{List, [], _∷_}
 use Prim.Native.Nat.{ℕ, zero, suc, _+_, _*_, _^_, _-_, _%_, _<_}
 use native.Mathlib.Nat as N
 use native.Mathlib.Omega.{arith}
-use Rattle.algebra.specs.Polynomial.{coef, plus, scaled, after, value, Same, Monic, Reduced, terms}
+use Rattle.algebra.specs.Polynomial.{coef, plus, scaled, after, value, Same, Monic, Reduced, terms, reduced}
 use Rattle.algebra.specs.Number.{Invertible}
 use Rattle.algebra.specs.Pair.{Pair, Normal, SplitsRight}
 use Rattle.algebra.specs.Change.{Changed, ChangedRight, ChangedPair, Undoes, combined-unit, combined-origin}
 use Rattle.algebra.proofs.Numbers.{number-cancel, pow-same, mul-same, one-pow, mul-pow, pow-pow, add-cancel}
 use Rattle.algebra.proofs.Polynomials.{same-refl, same-sym, _⨾_, plus-same, plus-assoc, plus-nothing, scaled-same, after-same, after-assoc, after-plus, after-scaled, scaled-plus, scaled-scaled, line-after, constant-after, constant-same, after-x, scaled-number, scaled-one, scaled-cancel, plus-cancel, line-same, monic-same}
 use Rattle.algebra.proofs.Coefficients.{coef-scaled}
-use Rattle.algebra.proofs.Reduction.{reduced, reduced-reduced, monic-reduced, reduced-equal}
+use Rattle.algebra.proofs.Reduction.{reduced-reduced, monic-reduced, reduced-equal}
 use Rattle.algebra.proofs.Factors.{invertible-pow, invertible-one}
 use Rattle.algebra.proofs.Values.{value-plus, value-scaled, value-after, value-same, value-zero}
 use Rattle.algebra.proofs.Moved as C
@@ -59,7 +59,7 @@ module _ {m : ℕ} (pos : 0 < m) where
       let (p, c) = changed-exists n b f i in
       let k = changed-monic np i mon c in
       let e = monic-reduced m pos l k in
-      (reduced m pos p, monic-same m pos e k, reduced-reduced m pos p, changed-same c e)
+      (reduced m p, monic-same m pos e k, reduced-reduced m pos p, changed-same c e)
 
   -- the change depends on a and b modulo m only
   pub changed-numbers : {n : ℕ} (a b c d : ℕ) {f f′ : List ℕ} → a % m ≡ c % m → b % m ≡ d % m → Changed m n a b f f′ → Changed m n c d f f′
@@ -152,7 +152,7 @@ module _ {m : ℕ} (pos : 0 < m) where
   changed-right-reduced b sp l i mon =
       let (k, mk, z, c) = changed-right-exists b sp i mon in
       let e = monic-reduced m pos l mk in
-      (reduced m pos k, monic-same m pos e mk, normal-same e z, reduced-reduced m pos k, changed-right-same c e)
+      (reduced m k, monic-same m pos e mk, normal-same e z, reduced-reduced m pos k, changed-right-same c e)
 
   pub changed-right-monic : {s a b : ℕ} {h h′ : List ℕ} → 0 < s → Invertible m a → Monic m s h → ChangedRight m s a b h h′ → Monic m s h′ × Normal m h′
   changed-right-monic {b = b} sp i mon c =

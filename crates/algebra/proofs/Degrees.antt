@@ -7,7 +7,7 @@
 --   compose n g h                         g(h), of g's first n coefficients
 --   left-unique                           the left part of a composition is unique
 use mathlib.Core.Path.{_≡_, refl, sym, ap, ap₂, _∙_, fun-ext}
-use Prim.Native.Nat.{ℕ, zero, suc, _+_, _*_, _-_, _≤_, _<_}
+use Prim.Native.Nat.{ℕ, zero, suc, _+_, _*_, _≤_, _<_}
 use native.Mathlib.Nat as N
 use native.Mathlib.Omega.{arith}
 use native.Mathlib.Decide.{decLt}
@@ -108,10 +108,10 @@ module _ (R : Ring) where
 
   module _ {s : ℕ} {h : S.Series R} (m : Monic R s h) where
     -- the top place of h w, where h is monic, is that of w
-    pub top-monic : {n : ℕ} {w : S.Series R} → Deg R n w → (h ⊠ w) (s + n) ≡ w n
+    top-monic : {n : ℕ} {w : S.Series R} → Deg R n w → (h ⊠ w) (s + n) ≡ w n
     top-monic {n} {w} d = top-mul s (m .deg) d ∙ ap (λ x. x ⊗ w n) (m .top) ∙ A.one-mul R (w n)
 
-    pub monic-kill : (n : ℕ) {w : S.Series R} → Deg R n w → ((i : ℕ) → (h ⊠ w) (s + i) ≡ 𝟘) → w ≡ nought
+    monic-kill : (n : ℕ) {w : S.Series R} → Deg R n w → ((i : ℕ) → (h ⊠ w) (s + i) ≡ 𝟘) → w ≡ nought
     monic-kill n {w} d z = deg-zero down (sym (top-monic down) ∙ z 0)
       where
         down : Deg R 0 w
@@ -136,7 +136,7 @@ module _ (R : Ring) where
         uv = A.eq-of-sub (S.series R) (monic-kill n (deg-add du (deg-neg dv)) (λ i. ap (λ (f : S.Series R). f (s + i)) spread ∙ A.sub-self R (above i)))
 
     -- c + h u = d + h v with constants c and d: u = v and c = d
-    pub monic-cancel : {n : ℕ} {u v : S.Series R} (c d : El) → 0 < s → Deg R n u → Deg R n v
+    monic-cancel : {n : ℕ} {u v : S.Series R} (c d : El) → 0 < s → Deg R n u → Deg R n v
         → S.const R c ⊞ h ⊠ u ≡ S.const R d ⊞ h ⊠ v → (u ≡ v) × (c ≡ d)
     unfolding S.const
     monic-cancel c d pos du dv e = let (p, q) = division-unique du dv (λ i l. deg-const 0 c .above i (omega arith)) (λ i l. deg-const 0 d .above i (omega arith)) e in

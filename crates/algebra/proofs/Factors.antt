@@ -9,7 +9,7 @@ use native.Mathlib.Nat as N
 use native.Mathlib.Omega.{arith}
 use Rattle.algebra.specs.Number.{GreatestFactor, Coprime, Invertible}
 use Rattle.algebra.proofs.Numbers.{mod-mul-mod, mul-mod-mod}
-use Rattle.algebra.proofs.Ring.{Ring, ring}
+use Rattle.algebra.proofs.Ring.{Ring}
 use Rattle.algebra.proofs.Evaluation.{nat, nat-add, nat-mul}
 use Rattle.algebra.proofs.Residues.{residues, Res, red, same, nat-red}
 use Rattle.algebra.proofs.Ring as A

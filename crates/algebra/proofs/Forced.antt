@@ -6,7 +6,7 @@
 --   pow-top                               01's step: how the place j + (r-1)s of h^r knows h's coefficient of x^j
 --   right-forced                          with r invertible and h(0) = 0 the leading terms tell h
 use mathlib.Core.Path.{_≡_, refl, sym, ap, subst, _∙_}
-use Prim.Native.Nat.{ℕ, zero, suc, _+_, _*_, _-_, _<_}
+use Prim.Native.Nat.{ℕ, zero, suc, _+_, _*_, _<_}
 use native.Mathlib.Nat as N
 use native.Mathlib.Omega.{arith}
 use Rattle.algebra.proofs.Ring.{Ring, ring}

@@ -5,11 +5,11 @@
 --   change                                h(a·x + b) = h(b) + a^s·k with k monic and k(0) = 0
 use mathlib.Core.Path.{_≡_, sym, ap, ap₂, subst, subst₂, _∙_, fun-ext}
 use mathlib.Core.List.{List, [], _∷_}
-use Prim.Native.Nat.{ℕ, zero, suc, _+_, _*_, _^_, _-_, _%_, _<_}
+use Prim.Native.Nat.{ℕ, zero, suc, _*_, _^_, _%_, _<_}
 use native.Mathlib.Nat as N
 use native.Mathlib.Omega.{arith}
 use native.Mathlib.Decide.{decLt}
-use Rattle.algebra.proofs.Ring.{Ring, ring}
+use Rattle.algebra.proofs.Ring.{Ring}
 use Rattle.algebra.proofs.Evaluation.{nat, nat-zero, nat-mul, nat-pow, nat-value, nat-series, pow, eval, eval-after, ⟦_⟧, series-coef}
 use Rattle.algebra.proofs.Residues.{residues, Res, red, red-eq, same, nat-red, equal→same}
 use Rattle.algebra.proofs.Degrees.{Deg, Lead, Monic, compose}

@@ -5,7 +5,7 @@
 --   add-cancel, number-cancel       cancelling a term, and a factor with an inverse
 --   pow-add, pow-pow, mul-pow, one-pow     powers
 --   sum-none, sum-more, sum-first, sum-split     a sum taken apart
---   sum-ext, sum-zeros              equal terms, equal sums; terms that are 0
+--   sum-ext, sum-zeros, sum-clip    equal terms, equal sums; terms that are 0, all or from one on
 --   table-length, table-below, table-above, table-ext     what a table holds
 use mathlib.Core.Path.{_≡_, refl, sym, ap, ap₂, _∙_}
 use Prim.Native.Nat.{ℕ, zero, suc, _+_, _*_, _^_, _-_, _%_, _/_, _≤_, _<_}
@@ -78,6 +78,13 @@ sum-split n (suc j) f = ap (λ (k : ℕ). sum k f) (N.add-suc n j) ∙ sum-more 
 pub sum-zeros : (n : ℕ) (f : ℕ → ℕ) → ((i : ℕ) → i < n → f i ≡ 0) → sum n f ≡ 0
 sum-zeros zero f z = sum-none f
 sum-zeros (suc n) f z = sum-more n f ∙ omega (arith, sum-zeros n f (λ i l. z i (omega arith)), z n (omega arith))
+
+-- the terms from n on are 0
+pub sum-clip : (n d : ℕ) (f : ℕ → ℕ) → n ≤ d → ((i : ℕ) → n ≤ i → i < d → f i ≡ 0) → sum d f ≡ sum n f
+sum-clip n d f l z =
+    let e : d ≡ n + (d - n) = omega arith in
+    ap (λ (k : ℕ). sum k f) e ∙ sum-split n (d - n) f
+    ∙ ap (λ (x : ℕ). sum n f + x) (sum-zeros (d - n) _ (λ i b. z (n + i) (omega arith) (omega arith))) ∙ N.add-zero _
 
 pub sum-first : (n : ℕ) (f : ℕ → ℕ) → sum (suc n) f ≡ f 0 + sum n (λ i. f (suc i))
 unfolding sum

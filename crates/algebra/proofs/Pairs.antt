@@ -9,7 +9,7 @@
 use mathlib.Core.Path.{_≡_, refl}
 use mathlib.Core.List.{List}
 use mathlib.Core.Logic.{_↔_}
-use Prim.Native.Nat.{ℕ, zero, _*_, _-_, _<_}
+use Prim.Native.Nat.{ℕ, _*_, _<_}
 use Rattle.algebra.specs.Polynomial.{after, value, Same, Monic, Reduced, terms}
 use Rattle.algebra.specs.Number.{Invertible}
 use Rattle.algebra.specs.Pair.{Pair, Normal, NormalPair, NoPair}

@@ -1,6 +1,7 @@
 -- Polynomials as the desk holds them.
 --
---   reduced p, reduced-reduced, reduced-same, monic-reduced    every polynomial of a degree within the limit has its reduced list
+--   reduced-reduced, reduced-same, monic-reduced    every polynomial of a degree within the limit has its reduced list
+--   reduced-place     its places
 --   reduced-equal     two reduced lists that are the same modulo m are equal
 --   monic-degree      a polynomial is monic of one degree only
 --   reduced-above     above its degree a reduced monic polynomial has zeros
@@ -14,20 +15,17 @@ use native.Mathlib.Decide.{decLt}
 use lib.ListN.{length, List·getD-eq-default}
 use lib.Seq.{ext-getD}
 use Rattle.algebra.specs.Number.{table}
-use Rattle.algebra.specs.Polynomial.{coef, Same, Monic, Reduced, terms, degree}
+use Rattle.algebra.specs.Polynomial.{coef, Same, Monic, Reduced, terms, reduced, degree}
 use Rattle.algebra.proofs.Highest.{degree-top}
 use Rattle.algebra.proofs.Numbers.{table-length, table-below, table-above}
 
 -- every polynomial of a low degree has its reduced list
 module _ (m : ℕ) (pos : 0 < m) where
-  unfoldable pub reduced : List ℕ → List ℕ
-  reduced p = table terms (λ i. coef p i % m)
-
-  pub reduced-reduced : (p : List ℕ) → Reduced m (reduced p)
+  pub reduced-reduced : (p : List ℕ) → Reduced m (reduced m p)
   unfolding reduced
   reduced-reduced p = record { long = table-length terms _; below = λ i l. rw (table-below terms (λ i. coef p i % m) i l) (N.mod-lt (coef p i) pos) }
 
-  pub reduced-same : (p : List ℕ) → ((i : ℕ) → terms ≤ i → coef p i % m ≡ 0 % m) → Same m p (reduced p)
+  pub reduced-same : (p : List ℕ) → ((i : ℕ) → terms ≤ i → coef p i % m ≡ 0 % m) → Same m p (reduced m p)
   unfolding reduced
   reduced-same p z = record { at = λ i. go i (decLt i terms) }
     where
@@ -35,8 +33,12 @@ module _ (m : ℕ) (pos : 0 < m) where
       go i (yes l) = sym (ap (λ (x : ℕ). x % m) (table-below terms (λ i. coef p i % m) i l) ∙ N.mod-mod (coef p i) m)
       go i (no l) = z i (omega arith) ∙ sym (ap (λ (x : ℕ). x % m) (table-above terms (λ i. coef p i % m) i (omega arith)))
 
-  pub monic-reduced : {n : ℕ} {p : List ℕ} → n < terms → Monic m n p → Same m p (reduced p)
+  pub monic-reduced : {n : ℕ} {p : List ℕ} → n < terms → Monic m n p → Same m p (reduced m p)
   monic-reduced {n} {p} l c = reduced-same p (λ i h. c .above i (omega arith))
+
+pub reduced-place : (m : ℕ) (p : List ℕ) (i : ℕ) → i < terms → coef (reduced m p) i ≡ coef p i % m
+unfolding reduced
+reduced-place m p i l = table-below terms (λ i. coef p i % m) i l
 
 -- reduced lists that are the same modulo m are equal
 pub reduced-equal : {m : ℕ} {p q : List ℕ} → Reduced m p → Reduced m q → Same m p q → p ≡ q

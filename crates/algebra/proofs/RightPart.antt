@@ -14,7 +14,7 @@ use native.Mathlib.Nat as N
 use native.Mathlib.Omega.{arith}
 use Rattle.algebra.specs.Polynomial.{coef, power, after, Same, Monic, terms}
 use Rattle.algebra.specs.Number.{Invertible}
-use Rattle.algebra.specs.Pair.{Pair, Normal, NoPair, ForcedRight, cleared}
+use Rattle.algebra.specs.Pair.{Pair, Normal, NoPair, ForcedRight, terms-from}
 use Rattle.algebra.proofs.Ring as A
 use Rattle.algebra.proofs.Series as S
 use Rattle.algebra.proofs.Evaluation.{⟦_⟧, nat, nat-add, nat-mul, nat-zero, eval-power, pow, series-coef}
@@ -27,26 +27,26 @@ use Rattle.algebra.proofs.Leading.{right-part-leading}
 use Rattle.algebra.proofs.ForcedPair.{leading, forced-refutes}
 use Rattle.algebra.proofs.Residues
 
-cleared-below : (j : ℕ) (h : List ℕ) (i : ℕ) → i < j → coef (cleared j h) i ≡ 0
-unfolding cleared
-cleared-below zero h i l = absurd (N.not-suc-le-zero l)
-cleared-below (suc j) [] i l = refl
-cleared-below (suc j) (a ∷ h) zero l = refl
-cleared-below (suc j) (a ∷ h) (suc i) l = cleared-below j h i (N.le-of-suc-le-suc l)
+terms-from-below : (j : ℕ) (h : List ℕ) (i : ℕ) → i < j → coef (terms-from j h) i ≡ 0
+unfolding terms-from
+terms-from-below zero h i l = absurd (N.not-suc-le-zero l)
+terms-from-below (suc j) [] i l = refl
+terms-from-below (suc j) (a ∷ h) zero l = refl
+terms-from-below (suc j) (a ∷ h) (suc i) l = terms-from-below j h i (N.le-of-suc-le-suc l)
 
-cleared-above : (j : ℕ) (h : List ℕ) (i : ℕ) → j ≤ i → coef (cleared j h) i ≡ coef h i
-unfolding cleared
-cleared-above zero h i l = refl
-cleared-above (suc j) [] i l = refl
-cleared-above (suc j) (a ∷ h) zero l = absurd (N.not-suc-le-zero l)
-cleared-above (suc j) (a ∷ h) (suc i) l = cleared-above j h i (N.le-of-suc-le-suc l)
+terms-from-above : (j : ℕ) (h : List ℕ) (i : ℕ) → j ≤ i → coef (terms-from j h) i ≡ coef h i
+unfolding terms-from
+terms-from-above zero h i l = refl
+terms-from-above (suc j) [] i l = refl
+terms-from-above (suc j) (a ∷ h) zero l = absurd (N.not-suc-le-zero l)
+terms-from-above (suc j) (a ∷ h) (suc i) l = terms-from-above j h i (N.le-of-suc-le-suc l)
 
 -- x^r
 unfoldable pub monomial : ℕ → List ℕ
 monomial zero = 1 ∷ []
 monomial (suc r) = 0 ∷ monomial r
 
-pub monomial-monic : (m r : ℕ) → Monic m r (monomial r)
+monomial-monic : (m r : ℕ) → Monic m r (monomial r)
 unfolding monomial
 monomial-monic m zero = record { top = refl; above = far }
   where
@@ -66,14 +66,14 @@ module _ (m : ℕ) (pos : 0 < m) where
   abbrev Z : A.Ring
   Z = residues m pos
 
-  cleared-monic : {s : ℕ} (j : ℕ) {h : List ℕ} → j ≤ s → Monic m s h → Monic m s (cleared j h)
-  cleared-monic {s} j {h} l mon = record { top = ap (λ (x : ℕ). x % m) (cleared-above j h s l) ∙ mon .top; above = λ i b. ap (λ (x : ℕ). x % m) (cleared-above j h i (omega arith)) ∙ mon .above i b }
+  terms-from-monic : {s : ℕ} (j : ℕ) {h : List ℕ} → j ≤ s → Monic m s h → Monic m s (terms-from j h)
+  terms-from-monic {s} j {h} l mon = record { top = ap (λ (x : ℕ). x % m) (terms-from-above j h s l) ∙ mon .top; above = λ i b. ap (λ (x : ℕ). x % m) (terms-from-above j h i (omega arith)) ∙ mon .above i b }
 
   -- the place j + r s of h^(r+1) knows h's coefficient of x^j only by (r + 1) c_j
   pub power-at : {s : ℕ} (r j : ℕ) {h : List ℕ} → j < s → Monic m s h
-      → coef (power h (suc r)) (j + r * s) % m ≡ (coef (power (cleared (suc j) h) (suc r)) (j + r * s) + suc r * coef h j) % m
+      → coef (power h (suc r)) (j + r * s) % m ≡ (coef (power (terms-from (suc j) h) (suc r)) (j + r * s) + suc r * coef h j) % m
   unfolding red S._⊞_ S.sneg
-  power-at {s} r j {h} l mon = at-residue m pos (power h (suc r)) i _ (at h ∙ pow-top Z (monic-series m pos mon) (monic-series m pos (cleared-monic (suc j) l mon)) r split low
+  power-at {s} r j {h} l mon = at-residue m pos (power h (suc r)) i _ (at h ∙ pow-top Z (monic-series m pos mon) (monic-series m pos (terms-from-monic (suc j) l mon)) r split low
       ∙ ap₂ (Residues.radd m pos) (sym (at k) ∙ series-coef Z (power k (suc r)) i) (ap (λ (x : Res m pos). Residues.rmul m pos x (nat Z (suc r))) here ∙ A.mul-comm Z _ _ ∙ sym (nat-mul Z (suc r) (coef h j)))
       ∙ sym (nat-add Z _ _) ∙ nat-red m pos _)
     where
@@ -81,7 +81,7 @@ module _ (m : ℕ) (pos : 0 < m) where
       i = j + r * s
 
       k : List ℕ
-      k = cleared (suc j) h
+      k = terms-from (suc j) h
 
       at : (p : List ℕ) → ⟦ Z ⟧ (power p (suc r)) i ≡ pow (S.series Z) (⟦ Z ⟧ p) (suc r) i
       at p = ap (λ (q : ℕ → Res m pos). q i) (eval-power (S.series Z) p (suc r) (S.X Z))
@@ -93,10 +93,10 @@ module _ (m : ℕ) (pos : 0 < m) where
       split = sym (A.add-sub (S.series Z) (⟦ Z ⟧ h) (⟦ Z ⟧ k))
 
       low : Deg Z j D
-      low = record { above = λ x b. A.sub-self Z (series-coef Z h x ∙ ap (nat Z) (sym (cleared-above (suc j) h x b)) ∙ sym (series-coef Z k x)) }
+      low = record { above = λ x b. A.sub-self Z (series-coef Z h x ∙ ap (nat Z) (sym (terms-from-above (suc j) h x b)) ∙ sym (series-coef Z k x)) }
 
       here : D j ≡ nat Z (coef h j)
-      here = ap₂ (Residues.radd m pos) (series-coef Z h j) (ap (Residues.rneg m pos) (series-coef Z k j ∙ ap (nat Z) (cleared-below (suc j) h j (N.le-refl (suc j))) ∙ nat-zero Z) ∙ A.neg-zero Z) ∙ A.add-zero Z _
+      here = ap₂ (Residues.radd m pos) (series-coef Z h j) (ap (Residues.rneg m pos) (series-coef Z k j ∙ ap (nat Z) (terms-from-below (suc j) h j (N.le-refl (suc j))) ∙ nat-zero Z) ∙ A.neg-zero Z) ∙ A.add-zero Z _
 
   -- the leading terms of g(h) are those of h^r
   after-power : {s : ℕ} (r : ℕ) {g h : List ℕ} → Monic m (suc r) g → Monic m s h → (i : ℕ) → r * s < i → coef (after g h) i % m ≡ coef (power h (suc r)) i % m
@@ -105,10 +105,10 @@ module _ (m : ℕ) (pos : 0 < m) where
 
   -- the two sides of 01's equation, for any monic g and h
   pub right-term : {r s : ℕ} {g h : List ℕ} → 0 < r → Monic m r g → Monic m s h → (k : ℕ) → 0 < k → k < s
-      → coef (after g h) (r * s - k) % m ≡ (coef (power (cleared (suc (s - k)) h) r) (r * s - k) + r * coef h (s - k)) % m
+      → coef (after g h) (r * s - k) % m ≡ (coef (power (terms-from (suc (s - k)) h) r) (r * s - k) + r * coef h (s - k)) % m
   right-term {r = zero} rp mg mh k a b = absurd (N.not-suc-le-zero rp)
   right-term {r = suc r} {s = s} {g = g} {h = h} rp mg mh k a b =
-      subst (λ (i : ℕ). coef (after g h) i % m ≡ (coef (power (cleared (suc (s - k)) h) (suc r)) i + suc r * coef h (s - k)) % m) place
+      subst (λ (i : ℕ). coef (after g h) i % m ≡ (coef (power (terms-from (suc (s - k)) h) (suc r)) i + suc r * coef h (s - k)) % m) place
       (after-power r mg mh (s - k + r * s) (omega arith) ∙ power-at r (s - k) (omega arith) mh)
     where
       place : s - k + r * s ≡ suc r * s - k

@@ -5,7 +5,7 @@
 --   X-mul-zero, X-mul-suc                 multiplied by x
 --   const-zero, const-add, const-mul, const-mul-at     constants
 use mathlib.Core.Path.{_≡_, refl, sym, ap, ap₂, _∙_, fun-ext}
-use Prim.Native.Nat.{ℕ, zero, suc, _+_}
+use Prim.Native.Nat.{ℕ, zero, suc}
 use Rattle.algebra.proofs.Ring.{Ring, ring}
 use Rattle.algebra.proofs.Ring as A
 

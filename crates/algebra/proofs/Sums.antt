@@ -4,7 +4,7 @@
 --   sum-suc, sum-zero, sum-ext, sum-last, mul-sum-in     its laws
 --   mul-sum                     the coefficient of x^k of a product
 use mathlib.Core.Path.{_≡_, refl, sym, ap, ap₂, _∙_}
-use Prim.Native.Nat.{ℕ, zero, suc, _+_, _-_, _<_}
+use Prim.Native.Nat.{ℕ, zero, suc, _-_, _<_}
 use native.Mathlib.Nat as N
 use native.Mathlib.Omega.{arith}
 use Rattle.algebra.proofs.Ring.{Ring}

@@ -28,7 +28,7 @@ none : (q : List ℕ) (k : ℕ) → coef (times [] q) k ≡ 0
 unfolding times
 none q k = refl
 
-pub times-linear : (n : ℕ) (c : ℕ → ℕ) (p : ℕ → List ℕ) (q h : List ℕ) → ((j : ℕ) → coef q j ≡ sum n (λ i. c i * coef (p i) j))
+times-linear : (n : ℕ) (c : ℕ → ℕ) (p : ℕ → List ℕ) (q h : List ℕ) → ((j : ℕ) → coef q j ≡ sum n (λ i. c i * coef (p i) j))
     → (k : ℕ) → coef (times h q) k ≡ sum n (λ i. c i * coef (times h (p i)) k)
 times-linear n c p q [] e k = none q k ∙ sym (sum-zeros n _ (λ i l. ap (λ (x : ℕ). c i * x) (none (p i) k) ∙ N.mul-zero (c i)))
 times-linear n c p q (b ∷ h) e zero = coef-times-zero (b ∷ h) q ∙ ap (λ (x : ℕ). b * x) (e 0) ∙ sym (sum-ext n _ _ (λ i l. ap (λ (x : ℕ). c i * x) (coef-times-zero (b ∷ h) (p i) ∙ sym (N.add-zero _))) ∙ sum-linear n b c (λ i. coef (p i) 0) (λ i. 0) ∙ ap (λ (x : ℕ). b * sum n (λ i. c i * coef (p i) 0) + x) (sum-zeros n _ (λ i l. N.mul-zero (c i))) ∙ N.add-zero _)

@@ -22,7 +22,7 @@ unfolding scaled value
 value-scaled a [] b = sym (N.mul-zero a)
 value-scaled a (c ∷ p) b = omega (arith, ap (λ (x : ℕ). b * x) (value-scaled a p b))
 
-pub value-times : (p q : List ℕ) (b : ℕ) → value (times p q) b ≡ value p b * value q b
+value-times : (p q : List ℕ) (b : ℕ) → value (times p q) b ≡ value p b * value q b
 unfolding times value
 value-times [] q b = sym (N.zero-mul _)
 value-times (a ∷ p) q b = value-plus (scaled a q) (0 ∷ times p q) b ∙ omega (arith, value-scaled a q b, ap (λ (x : ℕ). b * x) (value-times p q b))

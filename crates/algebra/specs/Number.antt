@@ -4,9 +4,10 @@
 --   choose j i             C(j, i), by Pascal's rule
 --   GreatestFactor a b d   d is the greatest common factor of a and b
 --   Coprime, Invertible    a and m share no factor above 1; a has an inverse modulo m
+--   Modulus m              what every leaf asks of its modulus: above 1, and numbers below m fit a machine word
 use mathlib.Core.Path.{_≡_}
 use mathlib.Core.List.{List, [], _∷_}
-use Prim.Native.Nat.{ℕ, zero, suc, _+_, _*_, _%_, _∣_}
+use Prim.Native.Nat.{ℕ, zero, suc, _+_, _*_, _^_, _%_, _≤_, _<_, _∣_}
 
 -- the list f(0), .., f(n - 1)
 unfoldable pub table : ℕ → (ℕ → ℕ) → List ℕ
@@ -38,3 +39,8 @@ pub record Coprime (a m : ℕ) : Type 0 where
 pub record Invertible (m a : ℕ) : Type 0 where
   pub inverse : ℕ
   pub unit : inverse * a % m ≡ 1 % m
+
+-- above 1, and every number below m fits a machine word
+pub record Modulus (m : ℕ) : Type 0 where
+  pub above-one : 1 < m
+  pub fits : m ≤ 2 ^ 32

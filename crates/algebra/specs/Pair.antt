@@ -5,7 +5,7 @@
 --   NoPair m f r s           no g and h whatever, normal or not, reduced or not
 --   SplitsRight m n f s      f, of degree n, splits with a right part of degree s
 --   Unsplit m p              p splits at no r
---   cleared j h              h without its terms below x^j
+--   terms-from j h           h without its terms below x^j
 --   ForcedRight m r s f h    h has the coefficients that 01's Right part rule forces
 use mathlib.Core.Path.{_≡_}
 use mathlib.Core.List.{List, [], _∷_}
@@ -48,14 +48,14 @@ pub record Unsplit (m : ℕ) (p : List ℕ) : Type 0 where
   pub none : (r s : ℕ) → 2 ≤ r → 2 ≤ s → r * s ≡ degree p → NoPair m p r s
 
 -- the terms of h from x^j on
-unfoldable pub cleared : ℕ → List ℕ → List ℕ
-cleared zero h = h
-cleared (suc j) [] = []
-cleared (suc j) (a ∷ h) = 0 ∷ cleared j h
+unfoldable pub terms-from : ℕ → List ℕ → List ℕ
+terms-from zero h = h
+terms-from (suc j) [] = []
+terms-from (suc j) (a ∷ h) = 0 ∷ terms-from j h
 
 -- r·c_(s-k) = a_(n-k) - d for k = 1 .. s-1, where d is the coefficient of x^(n-k) in q^r and q the known top of h
 pub record ForcedRight (m r s : ℕ) (f h : List ℕ) : Type 0 where
   pub monic : Monic m s h
   pub normal : Normal m h
   pub forced : (k : ℕ) → 0 < k → k < s
-      → (coef (power (cleared (suc (s - k)) h) r) (r * s - k) + r * coef h (s - k)) % m ≡ coef f (r * s - k) % m
+      → (coef (power (terms-from (suc (s - k)) h) r) (r * s - k) + r * coef h (s - k)) % m ≡ coef f (r * s - k) % m

@@ -7,11 +7,14 @@
 --   Same m p q, Monic m n p        equal modulo m; monic of degree n modulo m
 --   limit, terms                   the highest degree at the desk, and how many coefficients that makes
 --   Reduced m p                    p as the desk holds it: `terms` coefficients, each below m
+--   reduced m p                    what p is so: its first `terms` coefficients modulo m
+--   Held m n p                     reduced, and monic of degree n within the limit
 --   degree p                       the largest i whose coefficient is not zero
 use mathlib.Core.Path.{_≡_}
 use mathlib.Core.List.{List, [], _∷_}
-use Prim.Native.Nat.{ℕ, zero, suc, _+_, _*_, _%_, _<_}
+use Prim.Native.Nat.{ℕ, zero, suc, _+_, _*_, _%_, _≤_, _<_}
 use lib.ListN.{getD, length}
+use Rattle.algebra.specs.Number.{table}
 
 abbrev pub coef : List ℕ → ℕ → ℕ
 coef p i = getD p i 0
@@ -68,6 +71,16 @@ terms = limit + 1
 pub record Reduced (m : ℕ) (p : List ℕ) : Type 0 where
   pub long : length p ≡ terms
   pub below : (i : ℕ) → i < terms → coef p i < m
+
+-- each coefficient modulo m
+unfoldable pub reduced : ℕ → List ℕ → List ℕ
+reduced m p = table terms (λ i. coef p i % m)
+
+-- a monic polynomial of degree n as a leaf is given it
+pub record Held (m n : ℕ) (p : List ℕ) : Type 0 where
+  pub reduced : Reduced m p
+  pub monic : Monic m n p
+  pub within : n ≤ limit
 
 -- the largest i below k whose coefficient is not zero, and 0 if there is none
 unfoldable pub highest : ℕ → List ℕ → ℕ

@@ -2,6 +2,8 @@
 --
 --   handed-out xs k         the parts 0 to k - 1 of xs as they are handed out, listed from the right
 --   Fills p, part-fills     p fills a place and is not all zero; so does every part of a chain
+--   place-after             the words of place k, after those of the places before it
+--   fills-full              parts that fill their places, one after the other
 --   read-back               the parts that were written are handed out
 --   read-past               and after the last of them nothing
 use mathlib.Core.Path.{_≡_, refl, sym, ap, ap₂, _∙_}
@@ -17,7 +19,7 @@ use lib.ListN.{length, take, drop, replicate, length-append, length-drop, length
 use lib.Seq.{take-at, drop-at, drop-drop, drop-append-add}
 use Rattle.algebra.specs.Polynomial.{coef, degree, terms}
 use Rattle.algebra.specs.Chain.{part, Part}
-use Rattle.area.specs.Area.{most-parts, area-words, place, cleared, laid, written, all-zero, part-of}
+use Rattle.area.specs.Area.{most-parts, area-words, start, place, cleared, laid, written, all-zero, part-of}
 use Rattle.area.proofs.Handing.{past}
 use Rattle.area.proofs.Laying.{Full, laid-none, laid-more}
 
@@ -59,8 +61,8 @@ zeros zero = refl
 zeros (suc n) = zeros n
 
 -- the words of place k, after those of the places before it
-place-after : (a p rest : List ℕ) (k : ℕ) → length a ≡ k * terms → length p ≡ terms → place (a ++ (p ++ rest)) k ≡ p
-place-after a p rest k la lp = ap (take terms) (drop-at a (p ++ rest) (k * terms) la) ∙ take-at p rest terms lp
+pub place-after : (a p rest : List ℕ) (k : ℕ) → length a ≡ start k → length p ≡ terms → place (a ++ (p ++ rest)) k ≡ p
+place-after a p rest k la lp = ap (take terms) (drop-at a (p ++ rest) (start k) la) ∙ take-at p rest terms lp
 
 module _ (xs : List ℕ) (i : ℕ) (h : i < most-parts) (l : area-words ≤ length xs) {p : List ℕ} (e : place xs i ≡ p) where
   part-full : all-zero p ≡ false → part-of xs i ≡ p
@@ -71,7 +73,7 @@ module _ (xs : List ℕ) (i : ℕ) (h : i < most-parts) (l : area-words ≤ leng
   unfolding part-of
   part-empty z = simp (lt-ltb _ _ h, le-leb _ _ l, e, z)
 
-fills-full : (parts : List (List ℕ)) → EachFills parts → Full parts
+pub fills-full : (parts : List (List ℕ)) → EachFills parts → Full parts
 fills-full [] f = laid-none
 fills-full (p ∷ parts) f = laid-more p (f zero (omega arith) .long) (fills-full parts (λ i l. f (suc i) (omega arith)))
 
@@ -94,14 +96,14 @@ cleared-long xs l = simp (length-append, length-replicate, length-drop) (omega a
 -- a place of a cleared area
 cleared-place : (xs : List ℕ) (i : ℕ) → i < most-parts → place (cleared xs) i ≡ replicate terms 0
 unfolding cleared area-words
-cleared-place xs i h = ap (λ (a : List ℕ). place (a ++ drop area-words xs) i) front ∙ ap (λ (a : List ℕ). place a i) (append-assoc (replicate (i * terms) 0) _ _ ∙ ap (λ (a : List ℕ). replicate (i * terms) 0 ++ a) (append-assoc (replicate terms 0) _ _))
-    ∙ place-after (replicate (i * terms) 0) (replicate terms 0) (replicate (most-parts * terms - (i * terms + terms)) 0 ++ drop area-words xs) i (length-replicate (i * terms) 0) (length-replicate terms 0)
+cleared-place xs i h = ap (λ (a : List ℕ). place (a ++ drop area-words xs) i) front ∙ ap (λ (a : List ℕ). place a i) (append-assoc (replicate (start i) 0) _ _ ∙ ap (λ (a : List ℕ). replicate (start i) 0 ++ a) (append-assoc (replicate terms 0) _ _))
+    ∙ place-after (replicate (start i) 0) (replicate terms 0) (replicate (most-parts * terms - (start i + terms)) 0 ++ drop area-words xs) i (length-replicate (start i) 0) (length-replicate terms 0)
   where
-    fits : i * terms + (terms + (most-parts * terms - (i * terms + terms))) ≡ most-parts * terms
+    fits : start i + (terms + (most-parts * terms - (start i + terms))) ≡ most-parts * terms
     fits = omega (arith, N.mul-le-mul-right terms h)
 
-    front : replicate {A = ℕ} area-words 0 ≡ replicate (i * terms) 0 ++ (replicate terms 0 ++ replicate (most-parts * terms - (i * terms + terms)) 0)
-    front = ap (λ (n : ℕ). replicate n 0) (sym fits) ∙ sym (replicate-append-replicate (i * terms) _ 0) ∙ ap (λ (a : List ℕ). replicate (i * terms) 0 ++ a) (sym (replicate-append-replicate terms _ 0))
+    front : replicate {A = ℕ} area-words 0 ≡ replicate (start i) 0 ++ (replicate terms 0 ++ replicate (most-parts * terms - (start i + terms)) 0)
+    front = ap (λ (n : ℕ). replicate n 0) (sym fits) ∙ sym (replicate-append-replicate (start i) _ 0) ∙ ap (λ (a : List ℕ). replicate (start i) 0 ++ a) (sym (replicate-append-replicate terms _ 0))
 
 module _ (xs : List ℕ) (parts : List (List ℕ)) (f : EachFills parts) (most : length parts ≤ most-parts) (room : area-words ≤ length xs) where
   within : length (laid parts) ≤ length xs
@@ -122,10 +124,10 @@ module _ (xs : List ℕ) (parts : List (List ℕ)) (f : EachFills parts) (most :
   unfolding written
   unused i u h = ap (take terms) skipped ∙ cleared-place xs i h
     where
-      on : length (laid parts) + (i * terms - length (laid parts)) ≡ i * terms
+      on : length (laid parts) + (start i - length (laid parts)) ≡ start i
       on = omega (arith, fills-full parts f .long, N.mul-le-mul-right terms u)
 
-      skipped : drop (i * terms) (laid parts ++ drop (length (laid parts)) (cleared xs)) ≡ drop (i * terms) (cleared xs)
+      skipped : drop (start i) (laid parts ++ drop (length (laid parts)) (cleared xs)) ≡ drop (start i) (cleared xs)
       skipped = ap (λ (n : ℕ). drop n (laid parts ++ drop (length (laid parts)) (cleared xs))) (sym on) ∙ drop-append-add (laid parts) _ _ ∙ drop-drop _ (length (laid parts)) (cleared xs) ∙ ap (λ (n : ℕ). drop n (cleared xs)) on
 
   -- and after the last of them nothing

@@ -2,6 +2,7 @@
 --
 --   most-parts           how many parts a chain has at the most
 --   area-words           how many words are used
+--   start i              where place i starts
 --   place xs i           the words of place i
 --   put-at xs i p        xs with p in place i
 --   cleared xs           xs with all places zero
@@ -12,7 +13,7 @@
 --   part-of xs i         part i as it is handed out: the words of place i, or none
 use mathlib.Core.Bool.{Bool, true, false, not, _&&_}
 use mathlib.Core.List.{List, [], _∷_, _++_}
-use Prim.Native.Nat.{ℕ, _*_, _-_}
+use Prim.Native.Nat.{ℕ, _*_}
 use lib.Dec.{ltb, leb, eqb}
 use lib.ListN.{length, take, drop, replicate}
 use Rattle.algebra.specs.Polynomial.{terms}
@@ -25,13 +26,17 @@ most-parts = 6
 unfoldable pub area-words : ℕ
 area-words = most-parts * terms
 
+-- where place i starts: after the places before it
+abbrev pub start : ℕ → ℕ
+start i = i * terms
+
 -- the words of place i
 abbrev pub place : List ℕ → ℕ → List ℕ
-place xs i = take terms (drop (i * terms) xs)
+place xs i = take terms (drop (start i) xs)
 
 -- p in place i, and nothing else changed
 unfoldable pub put-at : List ℕ → ℕ → List ℕ → List ℕ
-put-at xs i p = take (i * terms) xs ++ (p ++ drop terms (drop (i * terms) xs))
+put-at xs i p = take (start i) xs ++ (p ++ drop terms (drop (start i) xs))
 
 -- the used words are zero, and the others as they were
 unfoldable pub cleared : List ℕ → List ℕ

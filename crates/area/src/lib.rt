@@ -1,9 +1,9 @@
 // The chain area: places for the parts of a chain in the caller's memory.
 ghost use mathlib.Core.Path.{_≡_};
-ghost use Prim.Native.Nat.{_+_, _*_, _<_, _≤_};
+ghost use Prim.Native.Nat.{_<_, _≤_};
 ghost use lib.ListN.{length};
 ghost use Rattle.algebra.specs.Polynomial.{terms};
-ghost use Rattle.area.specs.Area.{most-parts, area-words, put-at, cleared, all-zero, part-of};
+ghost use Rattle.area.specs.Area.{most-parts, area-words, start as start-of, put-at, cleared, all-zero, part-of};
 use polynomial::TERMS;
 
 // How many parts a chain has at the most.
@@ -11,6 +11,14 @@ pub const PARTS: usize = 6;
 
 // How many words of an area are used.
 pub const WORDS: usize = PARTS * TERMS;
+
+// Where place i starts.
+pub fn start(i: usize) -> usize
+    requires { ⌜ i < most-parts ⌝ }
+    ensures { λ r. ⌜ r ≡ start-of i ⌝ }
+{
+    i * TERMS
+}
 
 // Copies the words of p over a place that is lent.
 fn copy(place: &mut [u32], p: &[u32])
@@ -29,9 +37,9 @@ pub fn put(area: &mut [u32], i: usize, p: &[u32])
     requires { ⌜ (i < most-parts) × (area-words ≤ length (now area)) × (length (now p) ≡ terms) ⌝ }
     ensures { λ _. ⌜ now (area .exit) ≡ put-at (now (area .entry)) i (now (p .entry)) ⌝ }
 {
-    let start = i * TERMS;
-    let end = start + TERMS;
-    copy(&mut area[start..end], p);
+    let from = start(i);
+    let end = from + TERMS;
+    copy(&mut area[from..end], p);
 }
 
 // Zeroes every place.
@@ -69,9 +77,9 @@ pub fn part(area: &[u32], i: usize) -> &[u32]
     if area.len() < WORDS {
         return &area[0..0];
     }
-    let start = i * TERMS;
-    let end = start + TERMS;
-    let p = &area[start..end];
+    let from = start(i);
+    let end = from + TERMS;
+    let p = &area[from..end];
     if is_zero(p) {
         return &area[0..0];
     }

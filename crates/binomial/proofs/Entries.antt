@@ -3,17 +3,17 @@
 --   place      where it stands in the list
 --   at         that it stands there
 --   pascal     Pascal's rule at each entry
-use mathlib.Core.Path.{_≡_, refl, sym, _∙_, ap, ap₂, subst}
+use mathlib.Core.Path.{_≡_, refl, sym, _∙_, ap, ap₂}
 use mathlib.Core.Logic.{⊎-elim}
-use mathlib.Core.List.{List, [], _∷_, _++_}
+use mathlib.Core.List.{List, [], _∷_}
 use Prim.Native.Nat.{ℕ, zero, suc, _+_, _*_, _/_, _≤_, _<_}
-use native.Mathlib.Nat.{add-suc, mul-suc, suc-mul, eq-or-lt-of-le, le-pred-of-lt, le-of-suc-le-suc, not-suc-le-zero}
+use native.Mathlib.Nat.{mul-suc, suc-mul, eq-or-lt-of-le, le-of-suc-le-suc, not-suc-le-zero}
 use native.Mathlib.Numerals.{add-one}
 use native.Mathlib.Omega.{arith}
 use lib.ListN.{length, getD, length-append, List·getD-append}
 use lib.Seq.{getD-append-add}
 use Rattle.algebra.specs.Number.{choose}
-use Rattle.binomial.specs.Triangle.{rows, sums, row, triangle}
+use Rattle.binomial.specs.Triangle.{sums, row, triangle}
 
 sums-at : (xs : List ℕ) (i : ℕ) → getD (sums xs) i 0 ≡ getD xs i 0 + getD xs (suc i) 0
 unfolding sums

@@ -26,17 +26,13 @@ use Rattle.refusal.specs.declared.Reason.the-variants.{Factor}
 use Rattle.refusal.specs.declared.Outcome.the-variants.{Answered}
 use Rattle.refusal.proofs.Outcomes.{never}
 use Rattle.polynomial.specs.Checks.{check-one, Accepted}
-use Rattle.polynomial.proofs.Acceptance.{accepted-one, one-accepted, accepted-as, accepted-changed, degree-fits}
+use Rattle.polynomial.proofs.Acceptance.{accepted-one, one-accepted, accepted-above, accepted-changed, degree-fits}
 use Rattle.area.specs.Area.{most-parts, area-words, written, part-of}
 use Rattle.area.proofs.Reading.{handed-out, EachFills, part-fills, read-back, read-past}
 use Rattle.chain.specs.declared.Chained.{Chained}
 use Rattle.chain.specs.Chaining.{unchained, ChainOf}
 use Rattle.chain.specs.Chaining as of
 use Rattle.chain.proofs.Placing.{parts-within}
-
--- an accepted modulus is 2 or more
-modulus-two : {m : ℕ} {f : List ℕ} → Accepted m f → 2 ≤ m
-modulus-two a = let (rf, mf, f2, fl, m1, m2) = accepted-as refl a in m1
 
 module _ {m : ℕ} {f xs ys zs : List ℕ} {x y : Chained} (long : length f ≡ terms) where
   -- the answer and every word of the area are determined
@@ -60,7 +56,7 @@ module _ {m : ℕ} {f xs ys zs : List ℕ} {x y : Chained} (long : length f ≡ 
       (p ∙ ap₂ (λ (parts : List (List ℕ)) (t : ℕ). record { outcome = Answered; parts = length parts; tries = t; price = price parts }) (same .0) (same .1) ∙ sym q, a ∙ ap (written xs) (same .0) ∙ sym b)
     where
       same : (parts ≡ parts′) × (t ≡ t′)
-      same = let two = modulus-two (accepted-one long d) in C.chain-unique (omega arith) (coprime-invertible m (omega arith) c) v w
+      same = let two = accepted-above (accepted-one long d) in C.chain-unique (omega arith) (coprime-invertible m (omega arith) c) v w
 
 -- past the refusals of the area and of f, a common factor of n and m decides
 module _ {m : ℕ} {f xs ys : List ℕ} {x : Chained} (room : area-words ≤ length xs) (checked : check-one m f ≡ Answered) where
@@ -104,7 +100,7 @@ chain-complete long (of.refused l e a p) z = absurd (never (ap (λ (x : Chained)
 chain-complete long (of.shared l e n a p) z = absurd (never (ap (λ (x : Chained). x .outcome) p) z)
 chain-complete {m} {f} {xs} {ys} {x} long (of.chained {parts = parts} {t = t} l e c k a p) z =
     let acc = accepted-one long e in
-    let two = modulus-two acc in
+    let two = accepted-above acc in
     let is-part = C.chain-part two (acc .two) k in
     let most = parts-within (acc .two) (degree-fits acc) k in
     let fills : EachFills parts = λ i l. part-fills two (is-part i l) in
@@ -153,7 +149,7 @@ module _ {m a b : ℕ} {f f′ xs ys xs′ ys′ : List ℕ} {x x′ : Chained} 
   chain-changed long′ z z′ =
       let (parts, c) = chain-complete long k z in
       let (parts′, c′) = chain-complete long′ k′ z′ in
-      let two = modulus-two (c .accepted) in
+      let two = accepted-above (c .accepted) in
       let low : degree f ≤ limit = degree-fits (c .accepted) in
       let e = accepted-changed (c .accepted) (c′ .accepted .reduced) unit changed .1 in
       let (car, t, d, p) = C.chains-changed (omega arith) two (c .accepted .two) (omega arith) (coprime-invertible m (omega arith) (c .coprime)) (coprime-invertible m (omega arith) unit) changed

@@ -8,7 +8,7 @@
 --   passed-all                       all up to n/2: there is no split
 --   half-degrees                     a divisor up to n/2 is the right degree of a pair
 --   left-coprime                     a left degree shares no factor with m, as n does not
---   hit, miss                        what a verdict says
+--   hit, miss                        what the answer to a split says
 use mathlib.Core.Path.{_≡_, refl, sym, ap, subst, _∙_}
 use mathlib.Core.Bool.{true, false, false≢true}
 use mathlib.Core.List.{List}
@@ -23,10 +23,12 @@ use Rattle.algebra.specs.Pair.{Pair, NormalPair, NoPair, SplitsRight}
 use Rattle.algebra.specs.Chain.{divides, tested}
 use Rattle.algebra.proofs.Factors.{coprime-invertible, invertible-coprime, invertible-left}
 use Rattle.polynomial.specs.Degrees.{Degrees}
-use Rattle.pair.specs.Pairing.{Halved}
-use Rattle.pair.specs.declared.Verdict.{Verdict}
-use Rattle.pair.specs.declared.Verdict.the-variants as verdict
-use Rattle.chain.specs.Chaining.{pairs, Searched}
+use Rattle.refusal.specs.Refusal.{is-refused}
+use Rattle.polynomial.specs.Answers.{no-parts}
+use Rattle.polynomial.specs.declared.Parts.{Parts}
+use Rattle.pair.specs.Pairing.{SplitAnswer}
+use Rattle.pair.specs.Pairing as of
+use Rattle.chain.specs.Chaining.{Searched}
 
 divides-yes : (d n : ℕ) → n % d ≡ 0 → divides d n ≡ 1
 unfolding divides
@@ -125,15 +127,15 @@ module _ {m n s t : ℕ} {f : List ℕ} (p : Passed m n f s t) where
 pub left-coprime : {m n r : ℕ} (s : ℕ) → 1 < m → Coprime n m → r * s ≡ n → Coprime r m
 left-coprime {m} s l c e = invertible-coprime m (omega arith) (invertible-left s (coprime-invertible m (omega arith) c) e)
 
-module _ {m r s : ℕ} {f : List ℕ} where
-  -- the verdict is a pair
-  pub hit : {g h : List ℕ} (v : Verdict) → pairs v ≡ true → Halved m f r s v g h → NormalPair m f r s g h
-  hit verdict.Pair t a = a .1
-  hit verdict.NoPair t a = absurd (false≢true t)
-  hit verdict.Shared t a = absurd (false≢true t)
+-- a split that is answered has the pair
+pub hit : {m r s : ℕ} {f : List ℕ} {x : Parts} → is-refused (x .outcome) ≡ false → SplitAnswer m f r s x → NormalPair m f r s (x .left) (x .right)
+unfolding no-parts
+hit t (of.shared c e) = absurd (false≢true (sym t ∙ ap (λ (x : Parts). is-refused (x .outcome)) e))
+hit t (of.none c n e) = absurd (false≢true (sym t ∙ ap (λ (x : Parts). is-refused (x .outcome)) e))
+hit t (of.found c p e) = rw e p
 
-  -- and it is not, where r and m share no factor
-  pub miss : (g h : List ℕ) (v : Verdict) → pairs v ≡ false → Coprime r m → Halved m f r s v g h → NoPair m f r s
-  miss g h verdict.Pair t c a = absurd (false≢true (sym t))
-  miss g h verdict.NoPair t c a = a .1
-  miss g h verdict.Shared t c a = absurd (a c)
+-- and one that is refused has none, where r and m share no factor
+pub miss : {m r s : ℕ} {f : List ℕ} {x : Parts} → is-refused (x .outcome) ≡ true → Coprime r m → SplitAnswer m f r s x → NoPair m f r s
+miss t c (of.shared d e) = absurd (d c)
+miss t c (of.none d n e) = n
+miss t c (of.found d p e) = absurd (false≢true (sym (ap (λ (x : Parts). is-refused (x .outcome)) e) ∙ t))

@@ -1,6 +1,7 @@
 -- The chain of a polynomial, as 01's operation answers and writes it.
 --
---   pairs v, Shares n m b         what the tests of the code say
+--   Shares n m b                  whether n and m share a factor above 1
+--   ChainAsked m n f t            what the chain is given once its checks are passed: f of degree n, and the binomials
 --   FirstSplit m n f s t g h      s is the first right degree at which f splits, after t tries, and g, h the pair there
 --   NoSplit m n f t               f splits at no right degree, and t tries show it
 --   Searched m n f b s t g h      what the round over the right degrees finds
@@ -12,8 +13,8 @@ use mathlib.Core.Bool.{Bool, true, false}
 use mathlib.Core.List.{List, _++_}
 use Prim.Native.Nat.{ℕ, _*_, _/_, _≤_, _<_}
 use lib.ListN.{length, drop}
-use Rattle.algebra.specs.Number.{Coprime}
-use Rattle.algebra.specs.Polynomial.{degree, terms}
+use Rattle.algebra.specs.Number.{Coprime, Modulus}
+use Rattle.algebra.specs.Polynomial.{degree, terms, Held}
 use Rattle.algebra.specs.Pair.{NormalPair, SplitsRight}
 use Rattle.algebra.specs.Chain.{Chain, tested, price}
 use Rattle.refusal.specs.Refusal.{refusal}
@@ -23,21 +24,22 @@ use Rattle.refusal.specs.declared.Reason.the-variants.{Factor, Area}
 use Rattle.refusal.specs.declared.Outcome.{Outcome}
 use Rattle.refusal.specs.declared.Outcome.the-variants.{Answered, Refused}
 use Rattle.polynomial.specs.Checks.{check-one}
-use Rattle.pair.specs.declared.Verdict.{Verdict}
-use Rattle.pair.specs.declared.Verdict.the-variants.{Pair, NoPair, Shared}
+use Rattle.binomial.specs.Triangle.{rows, triangle}
 use Rattle.area.specs.Area.{area-words, cleared, laid, written}
 use Rattle.chain.specs.declared.Chained.{Chained}
-
--- whether a verdict is a pair
-abbrev pub pairs : Verdict → Bool
-pairs Pair = true
-pairs NoPair = false
-pairs Shared = false
 
 -- whether n and m share a factor above 1
 pub record Shares (n m : ℕ) (b : Bool) : Type 0 where
   pub yes : b ≡ true → Coprime n m → ⊥
   pub no : b ≡ false → Coprime n m
+
+-- n shares no factor with m
+pub record ChainAsked (m n : ℕ) (f table : List ℕ) : Type 0 where
+  pub modulus : Modulus m
+  pub whole : Held m n f
+  pub two : 2 ≤ n
+  pub coprime : Coprime n m
+  pub binomials : table ≡ triangle rows
 
 -- the first right degree at which f splits; one try for each that was tested, this one included
 pub record FirstSplit (m n : ℕ) (f : List ℕ) (s t : ℕ) (g h : List ℕ) : Type 0 where

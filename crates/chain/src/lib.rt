@@ -1,14 +1,12 @@
 // The chain: the parts that f composes of, none of which splits further, in a lent area.
 ghost use mathlib.Core.Path.{_≡_};
-ghost use Prim.Native.Nat.{_^_, _≤_, _<_};
+ghost use Prim.Native.Nat.{_≤_};
 ghost use lib.ListN.{length};
-ghost use Rattle.algebra.specs.Number.{Coprime};
-ghost use Rattle.algebra.specs.Polynomial.{limit, Monic, Reduced};
-ghost use Rattle.binomial.specs.Triangle.{rows, triangle};
+ghost use Rattle.algebra.specs.Number.{Modulus};
+ghost use Rattle.polynomial.specs.Moduli.{modulus};
 ghost use Rattle.area.specs.Area.{area-words};
-ghost use Rattle.chain.specs.Chaining.{pairs, Searched, ChainedIn, Shares, unchained as unchained-of, ChainOf};
+ghost use Rattle.chain.specs.Chaining.{ChainAsked, Searched, ChainedIn, Shares, unchained as unchained-of, ChainOf};
 use binomial::ENTRIES;
-use pair::Verdict;
 use polynomial::Coefficients;
 use refusal::Concerns;
 use refusal::Outcome;
@@ -32,21 +30,9 @@ struct Round {
     right: Coefficients,
 }
 
-// Whether a verdict is a pair.
-fn is_pair(v: Verdict) -> bool
-    ensures { λ b. ⌜ b ≡ pairs v ⌝ }
-{
-    match v {
-        Verdict::Pair => true,
-        Verdict::NoPair => false,
-        Verdict::Shared => false,
-    }
-}
-
 // The round: each right degree from 2 to n / 2 that divides n, until f splits.
 fn first_split(f: Coefficients, n: usize, table: &[u64; ENTRIES], m: u64) -> Round
-    requires { ⌜ Reduced m f × Monic m n f × Coprime n m × (2 ≤ n) × (n ≤ limit) × (now table ≡ triangle rows) ⌝ }
-    requires { ⌜ (1 < m) × (m ≤ 2 ^ 32) ⌝ }
+    requires { ⌜ ChainAsked m n f (now table) ⌝ }
     ensures { λ a. ⌜ Searched m n f (a .found) (a .at) (a .tries) (a .left) (a .right) ⌝ }
 {
     let mut tries = 0;
@@ -55,8 +41,8 @@ fn first_split(f: Coefficients, n: usize, table: &[u64; ENTRIES], m: u64) -> Rou
         if n % s == 0 {
             tries += 1;
             let a = pair::split_at(f, n, n / s, s, table, m);
-            let v = a.verdict;
-            if is_pair(v) {
+            let o = a.outcome;
+            if !refusal::refuses(o) {
                 let left = a.left;
                 let right = a.right;
                 return Round {
@@ -88,8 +74,7 @@ struct Counted {
 
 // The parts of f from the first place on: those of the left part first, then the right part in the next place.
 fn parts(f: Coefficients, n: usize, area: &mut [u32], table: &[u64; ENTRIES], m: u64) -> Counted
-    requires { ⌜ Reduced m f × Monic m n f × Coprime n m × (2 ≤ n) × (n ≤ limit) × (now table ≡ triangle rows) ⌝ }
-    requires { ⌜ (area-words ≤ length (now area)) × (1 < m) × (m ≤ 2 ^ 32) ⌝ }
+    requires { ⌜ ChainAsked m n f (now table) × (area-words ≤ length (now area)) ⌝ }
     ensures { λ c. ⌜ ChainedIn m n f (now (area .entry)) (now (area .exit)) (c .parts) (c .tries) (c .price) ⌝ }
 {
     let a = first_split(f, n, table, m);
@@ -130,7 +115,7 @@ fn unchained(outcome: Outcome) -> Chained
 
 // Whether n and m share a factor above 1.
 fn shares(n: usize, m: u64) -> bool
-    requires { ⌜ (1 < m) × (m ≤ 2 ^ 32) ⌝ }
+    requires { ⌜ Modulus m ⌝ }
     ensures { λ b. ⌜ Shares n m b ⌝ }
 {
     match residue::invert(n as u64, m) {
@@ -141,8 +126,9 @@ fn shares(n: usize, m: u64) -> bool
 
 // The operation: the chain of f, its number of parts, tries and price.
 pub fn chain(m: u32, f: Coefficients, area: &mut [u32]) -> Chained
-    ensures { λ x. ⌜ ChainOf m f (now (area .entry)) (now (area .exit)) x ⌝ }
+    ensures { λ x. ⌜ ChainOf (modulus m) f (now (area .entry)) (now (area .exit)) x ⌝ }
 {
+    let m = polynomial::modulus(m);
     if area.len() < area::WORDS {
         return unchained(refusal::refused(Concerns::Neither, Reason::Area));
     }
@@ -152,11 +138,11 @@ pub fn chain(m: u32, f: Coefficients, area: &mut [u32]) -> Chained
     if refusal::refuses(o) {
         return unchained(o);
     }
-    if shares(n, m as u64) {
+    if shares(n, m) {
         return unchained(refusal::refused(Concerns::Neither, Reason::Factor));
     }
     let table = binomial::table();
-    let c = parts(f, n, area, &table, m as u64);
+    let c = parts(f, n, area, &table, m);
     Chained {
         outcome: Outcome::Answered,
         parts: c.parts,

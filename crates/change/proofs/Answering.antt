@@ -1,49 +1,35 @@
--- What an operation goes by: the checks before it, the test of a change, and the change that undoes one.
+-- What an operation goes by: the test of a change, and the change that undoes one.
 --
---   above-one                a modulus that passes No. 1 is above 1
 --   tests-no, tests-yes      the test of a change says no, or yes with an inverse
 --   undone-is                (1/a, -b/a) undoes (a, b)
-use mathlib.Core.Path.{_≡_, sym, ap, _∙_}
+use mathlib.Core.Path.{_≡_, sym, _∙_}
 use mathlib.Core.Bool.{true, false, true≢false, false≢true}
 use Prim.Native.Nat.{ℕ, _+_, _*_, _-_, _%_, _<_}
 use native.Mathlib.Nat as N
 use native.Mathlib.Omega.{arith}
-use native.Mathlib.Decide.{decLt}
-use borrow.Author.Tests.{lt-ltb}
-use Rattle.refusal.specs.Refusal.{is-refused}
-use Rattle.refusal.specs.declared.Outcome.the-variants.{Answered}
+use Rattle.algebra.specs.Number.{Modulus}
 use Rattle.residue.specs.Residue.{InverseIs}
 use Rattle.residue.specs.declared.Inverse.the-variants.{Of}
 use Rattle.residue.proofs.Congruent.{Congruent, from-eq, reduced, plus, times, turn, _then_}
 use Rattle.residue.proofs.Inverses.{inverse-coprime}
-use Rattle.polynomial.specs.Checks.{smallest, check-modulus}
 use Rattle.change.specs.declared.Change.{Change}
-use Rattle.change.specs.Changing.{Proper, Tests, Undone}
-
--- a modulus that passes No. 1 is above 1
-pub above-one : (m : ℕ) → check-modulus m ≡ Answered → 1 < m
-unfolding check-modulus smallest
-above-one m h = go (decLt 1 m)
-  where
-    go : Dec (1 < m) → 1 < m
-    go (yes l) = l
-    go (no l) = let refused : m < smallest = omega arith in absurd (true≢false (ap is-refused (simp (lt-ltb m smallest refused) at h)))
+use Rattle.change.specs.Changing.{Proper, Tests, Inverts, Undone}
 
 -- the test says no
 pub tests-no : {m : ℕ} {c : Change} → (Proper m c → ⊥) → Tests m c false 0
 tests-no h = record { yes = λ w. absurd (false≢true w); no = λ w. h }
 
 -- it says yes, with the inverse
-pub tests-yes : {m u : ℕ} {c : Change} → c .unit < m → c .origin < m → InverseIs (c .unit) m (Of u) → Tests m c true u
-tests-yes {m} {u} {c} a b i = record {
-  yes = λ w. (record { unit-below = a; origin-below = b; invertible = inverse-coprime i }, i .0, (from-eq (N.mul-comm u (c .unit)) then turn (reduced (sym (i .1)))) .same);
-  no = λ w. absurd (true≢false w);
+pub tests-yes : {m u : ℕ} {c : Change} → Modulus m → c .unit < m → c .origin < m → InverseIs (c .unit) m (Of u) → Tests m c true u
+tests-yes {m} {u} {c} w a b i = record {
+  yes = λ v. (record { unit-below = a; origin-below = b; invertible = inverse-coprime i }, i .0, record { modulus = w; unit = (from-eq (N.mul-comm u (c .unit)) then turn (reduced (sym (i .1)))) .same });
+  no = λ v. absurd (true≢false v);
 }
 
 -- (1/a, -b/a) undoes (a, b)
-pub undone-is : {m u minus v : ℕ} {c : Change} → c .origin < m → u < m → u * c .unit % m ≡ 1 % m → minus ≡ (0 + (m - c .origin)) % m → v ≡ u * minus % m
+pub undone-is : {m u minus v : ℕ} {c : Change} → Inverts m (c .unit) u → u < m → c .origin < m → minus ≡ (0 + (m - c .origin)) % m → v ≡ u * minus % m
     → Undone m c (record { unit = u; origin = v })
-undone-is {m} {u} {minus} {v} {c} b l e k d =
+undone-is {m} {u} {minus} {v} {c} e l b k d =
     let flipped : c .unit * v + c .origin ≡ v * c .unit + c .origin = omega arith in
     let regrouped : u * minus * c .unit + c .origin ≡ u * c .unit * minus + c .origin = omega arith in
     let once : 1 * minus + c .origin ≡ minus + c .origin = omega arith in
@@ -59,4 +45,4 @@ undone-is {m} {u} {minus} {v} {c} b l e k d =
     }
   where
     inverse : Congruent m (u * c .unit) 1
-    inverse = record { same = e }
+    inverse = record { same = e .unit }

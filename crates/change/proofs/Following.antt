@@ -21,11 +21,12 @@ use Rattle.refusal.specs.Refusal.{is-refused}
 use Rattle.refusal.specs.declared.Concerns.the-variants.{First}
 use Rattle.refusal.specs.declared.Outcome.the-variants.{Answered}
 use Rattle.refusal.proofs.Outcomes.{then-both}
-use Rattle.polynomial.specs.Checks.{smallest, check-modulus, check-polynomial, check-one, check-two, check-pair, Accepted}
+use Rattle.polynomial.specs.Checks.{check-polynomial, check-one, check-two, check-pair, Accepted}
+use Rattle.polynomial.specs.Moduli.{check-modulus}
 use Rattle.polynomial.specs.Answers.{nothing, no-parts}
 use Rattle.polynomial.specs.declared.Answer.{Answer}
 use Rattle.polynomial.specs.declared.Parts.{Parts}
-use Rattle.polynomial.proofs.Acceptance.{accepted-one, one-accepted, accepted-pair, pair-accepted}
+use Rattle.polynomial.proofs.Acceptance.{accepted-above, accepted-one, one-accepted, accepted-pair, pair-accepted}
 use Rattle.change.specs.declared.Change.{Change}
 use Rattle.change.specs.declared.Made.{Made}
 use Rattle.change.specs.Changing.{identity, Proper, combined-change, Undone, Undoing, ChangesPolynomial, ChangesPair, refused, not-proper, undone, changed}
@@ -73,8 +74,7 @@ undone-by a p (undone b q u k) = rw k u
 
 -- what is monic of the degree of an accepted polynomial has its degree, and is accepted
 kept : {m : ℕ} {f f′ : List ℕ} → Accepted m f → Reduced m f′ → Monic m (degree f) f′ → (degree f′ ≡ degree f) × Accepted m f′
-unfolding smallest
-kept a r k = let e = degree-monic (a .low) r k in (e, record { low = a .low; high = a .high; reduced = r; monic = rw e k; two = rw e (a .two) })
+kept a r k = let e = degree-monic (accepted-above a) r k in (e, record { modulus = a .modulus; reduced = r; monic = rw e k; two = rw e (a .two) })
 
 -- so of a polynomial
 kept-polynomial : {m : ℕ} {f f′ : List ℕ} {c : Change} → Accepted m f → Went m f c f′ → (degree f′ ≡ degree f) × Accepted m f′
@@ -83,10 +83,9 @@ kept-polynomial a s = kept a (s .reduced) (changed-monic (modulus-positive (s .p
 module _ {m : ℕ} {f : List ℕ} (long : length f ≡ terms) where
   -- (1, 0) changes no accepted polynomial
   pub identity-polynomial : {x : Answer} → check-one m f ≡ Answered → ChangesPolynomial m f identity x → x ≡ record { outcome = Answered; polynomial = f }
-  unfolding smallest
   identity-polynomial h x =
       let a = accepted-one long h in
-      change-polynomial-determined x (changed h (identity-proper (a .low)) (a .reduced) (changed-by-nothing (omega (arith, a .low)) f) refl)
+      change-polynomial-determined x (changed h (identity-proper (accepted-above a)) (a .reduced) (changed-by-nothing (omega (arith, accepted-above a)) f) refl)
 
   -- changing by c and then by d is changing by the combined change
   pub combined-polynomial : {c d : Change} {x y z : Answer} → ChangesPolynomial m f c x → x .outcome ≡ Answered
@@ -126,10 +125,9 @@ kept-pair {h = h} a b s =
 module _ {m : ℕ} {g h : List ℕ} (long-left : length g ≡ terms) (long-right : length h ≡ terms) where
   -- (1, 0) changes no accepted normal pair
   pub identity-pair : {x : Parts} → check-pair m g h ≡ Answered → Normal m h → ChangesPair m g h identity x → x ≡ record { outcome = Answered; left = g; right = h }
-  unfolding smallest
   identity-pair e z x =
       let (a, b, l) = accepted-pair long-left long-right e in
-      change-pair-determined x (changed e (identity-proper (a .low)) (a .reduced) (b .reduced) (changed-pair-by-nothing (omega (arith, a .low)) g z) refl)
+      change-pair-determined x (changed e (identity-proper (accepted-above a)) (a .reduced) (b .reduced) (changed-pair-by-nothing (omega (arith, accepted-above a)) g z) refl)
 
   -- changing by c and then by d is changing by the combined change
   pub combined-pair : {c d : Change} {x y z : Parts} → ChangesPair m g h c x → x .outcome ≡ Answered

@@ -2,5 +2,5 @@ pub mod Answering
 pub mod Combining
 pub mod Determined
 pub mod Following
-pub mod Horner
+pub mod Moving
 pub mod Scaling

@@ -1,11 +1,12 @@
 -- The operations on changes, as 01 has them.
 --
---   identity                        the change (1, 0)
+--   made a b, identity              the change (a, b), and the change (1, 0)
 --   Proper m c                      what No. 8 asks: a and b are below m and a has an inverse
 --   Tests m c proper inverse        what the test of a change finds
 --   combined-change m c d           first c, then d
+--   Inverts m a u                   m is a modulus, and u an inverse of a
 --   Undone m c d                    d undoes c
---   RightChanged, PairChanged       what the leaves for a right part and for a pair promise
+--   PolynomialChanged, RightChanged, PairChanged     what the leaves for a polynomial, a right part and a pair promise
 --   unchanged o                     the outcome o beside (1, 0), as after a refusal
 --   Combines m c d x                x answers: first c, then d
 --   Undoing m c x                   x answers: what undoes c
@@ -14,8 +15,8 @@
 use mathlib.Core.Path.{_≡_}
 use mathlib.Core.Bool.{Bool, true, false}
 use mathlib.Core.List.{List}
-use Prim.Native.Nat.{ℕ, _+_, _*_, _%_, _<_}
-use Rattle.algebra.specs.Number.{Coprime}
+use Prim.Native.Nat.{ℕ, _*_, _%_, _<_}
+use Rattle.algebra.specs.Number.{Coprime, Modulus}
 use Rattle.algebra.specs.Polynomial.{value, degree, Reduced}
 use Rattle.algebra.specs.Change.{Changed, ChangedRight, ChangedPair, Undoes, combined-unit, combined-origin}
 use Rattle.refusal.specs.Refusal.{refusal}
@@ -24,16 +25,21 @@ use Rattle.refusal.specs.declared.Concerns.the-variants.{Neither}
 use Rattle.refusal.specs.declared.Reason.the-variants as reason
 use Rattle.refusal.specs.declared.Outcome.{Outcome}
 use Rattle.refusal.specs.declared.Outcome.the-variants.{Answered, Refused}
-use Rattle.polynomial.specs.Checks.{check-modulus, check-one, check-pair}
+use Rattle.polynomial.specs.Moduli.{check-modulus}
+use Rattle.polynomial.specs.Checks.{check-one, check-pair}
 use Rattle.polynomial.specs.Answers.{nothing, no-parts}
 use Rattle.polynomial.specs.declared.Answer.{Answer}
 use Rattle.polynomial.specs.declared.Parts.{Parts}
 use Rattle.change.specs.declared.Change.{Change}
 use Rattle.change.specs.declared.Made.{Made}
 
+-- the change (a, b)
+abbrev pub made : ℕ → ℕ → Change
+made a b = record { unit = a; origin = b }
+
 -- the change (1, 0)
 abbrev pub identity : Change
-identity = record { unit = 1; origin = 0 }
+identity = made 1 0
 
 -- a and b are below m, and a shares no factor with m
 pub record Proper (m : ℕ) (c : Change) : Type 0 where
@@ -41,9 +47,14 @@ pub record Proper (m : ℕ) (c : Change) : Type 0 where
   pub origin-below : c .origin < m
   pub invertible : Coprime (c .unit) m
 
+-- u times a is 1
+pub record Inverts (m a u : ℕ) : Type 0 where
+  pub modulus : Modulus m
+  pub unit : u * a % m ≡ 1 % m
+
 -- what the test of a change finds: yes with an inverse of its unit, or no
 pub record Tests (m : ℕ) (c : Change) (proper : Bool) (inverse : ℕ) : Type 0 where
-  pub yes : proper ≡ true → Proper m c × (inverse < m) × (inverse * c .unit % m ≡ 1 % m)
+  pub yes : proper ≡ true → Proper m c × (inverse < m) × Inverts m (c .unit) inverse
   pub no : proper ≡ false → Proper m c → ⊥
 
 -- (a·a2, a·b2 + b) modulo m
@@ -58,6 +69,11 @@ pub record Undone (m : ℕ) (c d : Change) : Type 0 where
   pub unit-below : d .unit < m
   pub origin-below : d .origin < m
   pub undoes : Undoes m (c .unit) (c .origin) (d .unit) (d .origin)
+
+-- the changed polynomial, reduced
+pub record PolynomialChanged (m n a b : ℕ) (f f′ : List ℕ) : Type 0 where
+  pub reduced : Reduced m f′
+  pub changed : Changed m n a b f f′
 
 -- h′ reduced, and h(b) modulo m
 pub record RightChanged (m s a b : ℕ) (h h′ : List ℕ) (origin : ℕ) : Type 0 where

@@ -4,14 +4,13 @@
 //   change_polynomial      a^(-n)·f(a·x + b)
 //   change_pair            h′ = a^(-s)·(h(a·x + b) - h(b)), g′ = a^(-n)·g(a^s·x + h(b))
 ghost use mathlib.Core.Path.{_≡_};
-ghost use mathlib.Core.List.{List, [], _∷_};
-ghost use Prim.Native.Nat.{ℕ, _+_, _*_, _%_, _^_, _≤_, _<_};
+ghost use Prim.Native.Nat.{_<_};
 ghost use lib.ListN.{length};
-ghost use Rattle.algebra.specs.Number.{table};
-ghost use Rattle.algebra.specs.Polynomial.{coef, plus, times, limit, terms, Monic, Reduced};
-ghost use Rattle.algebra.specs.Change.{Changed, ChangedPair};
-ghost use Rattle.change.specs.Moving.{line, moved as moved-of, multiple as multiple-of};
-ghost use Rattle.change.specs.Changing.{identity, unchanged as unchanged-beside, improper as improper-outcome, combined-change, Tests, Undone, RightChanged, PairChanged, Combines, Undoing, ChangesPolynomial, ChangesPair};
+ghost use Rattle.algebra.specs.Number.{Modulus};
+ghost use Rattle.algebra.specs.Polynomial.{scaled, terms, reduced, Held};
+ghost use Rattle.polynomial.specs.Moduli.{modulus};
+ghost use Rattle.change.specs.Moving.{Lined, moved as moved-of};
+ghost use Rattle.change.specs.Changing.{made, unchanged as unchanged-beside, improper as improper-outcome, combined-change, Tests, Inverts, Undone, PolynomialChanged, RightChanged, PairChanged, Combines, Undoing, ChangesPolynomial, ChangesPair};
 use polynomial::Answer;
 use polynomial::Coefficients;
 use polynomial::Parts;
@@ -41,7 +40,7 @@ struct Tested {
 
 // The test of No. 8.
 fn proper(c: Change, m: u64) -> Tested
-    requires { ⌜ (1 < m) × (m ≤ 2 ^ 32) ⌝ }
+    requires { ⌜ Modulus m ⌝ }
     ensures { λ t. ⌜ Tests m c (t .proper) (t .inverse) ⌝ }
 {
     if m <= c.unit as u64 {
@@ -87,7 +86,7 @@ fn improper() -> Outcome
 
 // (a·a2, a·b2 + b).
 fn combined(first: Change, second: Change, m: u64) -> Change
-    requires { ⌜ (0 < m) × (m ≤ 2 ^ 32) ⌝ }
+    requires { ⌜ Modulus m ⌝ }
     ensures { λ r. ⌜ r ≡ combined-change m first second ⌝ }
 {
     Change {
@@ -98,7 +97,7 @@ fn combined(first: Change, second: Change, m: u64) -> Change
 
 // (1/a, -b/a), by the inverse u of a.
 fn undone(c: Change, u: u32, m: u64) -> Change
-    requires { ⌜ (c .origin < m) × (u < m) × (u * c .unit % m ≡ 1 % m) × (m ≤ 2 ^ 32) ⌝ }
+    requires { ⌜ Inverts m (c .unit) u × (u < m) × (c .origin < m) ⌝ }
     ensures { λ r. ⌜ Undone m c r ⌝ }
 {
     let minus = residue::subtract(0, c.origin, m);
@@ -112,29 +111,22 @@ impl Change {
     // The change that changes nothing.
     pub const IDENTITY: Change = Change { unit: 1, origin: 0 };
 
-    // The constant, which is the definition's.
-    pub fn identity() -> Self
-        ensures { λ r. ⌜ r ≡ identity ⌝ }
-    {
-        Change::IDENTITY
-    }
-
     // Any two numbers; the operations test them.
     pub fn make(unit: u32, origin: u32) -> Self
-        ensures { λ r. ⌜ (r .unit ≡ unit) × (r .origin ≡ origin) ⌝ }
+        ensures { λ r. ⌜ r ≡ made unit origin ⌝ }
     {
         Change { unit, origin }
     }
 
     // First one, then the other, as one change.
     pub fn combine(m: u32, first: Change, second: Change) -> Made
-        ensures { λ x. ⌜ Combines m first second x ⌝ }
+        ensures { λ x. ⌜ Combines (modulus m) first second x ⌝ }
     {
+        let m = polynomial::modulus(m);
         let o = polynomial::check_modulus(m);
         if refusal::refuses(o) {
             return unchanged(o);
         }
-        let m = m as u64;
         let one = proper(first, m);
         if !one.proper {
             return unchanged(improper());
@@ -151,13 +143,13 @@ impl Change {
 
     // The change that undoes one.
     pub fn undo(m: u32, c: Change) -> Made
-        ensures { λ x. ⌜ Undoing m c x ⌝ }
+        ensures { λ x. ⌜ Undoing (modulus m) c x ⌝ }
     {
+        let m = polynomial::modulus(m);
         let o = polynomial::check_modulus(m);
         if refusal::refuses(o) {
             return unchanged(o);
         }
-        let m = m as u64;
         let t = proper(c, m);
         if !t.proper {
             return unchanged(improper());
@@ -169,37 +161,29 @@ impl Change {
     }
 }
 
-// One step of Horner's rule: c + (b + a·x)·p, where p has no place from d on.
-fn turned(p: &[u32], c: u32, a: u32, b: u32, d: usize, m: u64) -> Coefficients
-    requires { ⌜ (length (now p) ≡ terms) × (d ≤ limit) × ((k : ℕ) → d ≤ k → coef (now p) k ≡ 0) × (0 < m) × (m ≤ 2 ^ 32) ⌝ }
-    ensures { λ q. ⌜ q ≡ table terms (λ k. coef (plus (c ∷ []) (times (line a b) (now (p .entry)))) k % m) ⌝ }
+// b + a·x.
+fn line(a: u32, b: u32) -> Coefficients
+    ensures { λ l. ⌜ Lined a b l ⌝ }
 {
-    let mut q = [0; TERMS];
-    q[0] = residue::two_products(b, p[0], c, 1, m);
-    for k in 1..d + 1 {
-        q[k] = residue::two_products(b, p[k], a, p[k - 1], m);
-    }
-    q
+    let mut l = [0; TERMS];
+    l[0] = b;
+    l[1] = a;
+    l
 }
 
 // f(a·x + b), for f of degree n.
 fn moved(f: &[u32], n: usize, a: u32, b: u32, m: u64) -> Coefficients
-    requires { ⌜ Reduced m (now f) × Monic m n (now f) × (n ≤ limit) × (0 < m) × (m ≤ 2 ^ 32) ⌝ }
+    requires { ⌜ Modulus m × Held m n (now f) ⌝ }
     ensures { λ p. ⌜ p ≡ moved-of m (now (f .entry)) a b ⌝ }
 {
-    let mut p = [0; TERMS];
-    let mut i = n + 1;
-    while i != 0 {
-        i -= 1;
-        p = turned(&p, f[i], a, b, n - i, m);
-    }
-    p
+    let l = line(a, b);
+    composition::compose(f, &l, n, 1, m)
 }
 
 // Each coefficient times c.
 fn multiple(p: &[u32], c: u32, m: u64) -> Coefficients
-    requires { ⌜ (length (now p) ≡ terms) × (0 < m) × (m ≤ 2 ^ 32) ⌝ }
-    ensures { λ q. ⌜ q ≡ multiple-of m c (now (p .entry)) ⌝ }
+    requires { ⌜ Modulus m × (length (now p) ≡ terms) ⌝ }
+    ensures { λ q. ⌜ q ≡ reduced m (scaled c (now (p .entry))) ⌝ }
 {
     let mut q = [0; TERMS];
     for k in 0..TERMS {
@@ -210,9 +194,8 @@ fn multiple(p: &[u32], c: u32, m: u64) -> Coefficients
 
 // a^(-n)·f(a·x + b), by the inverse u of a.
 fn changed(f: &[u32], n: usize, a: u32, b: u32, u: u32, m: u64) -> Coefficients
-    requires { ⌜ Reduced m (now f) × Monic m n (now f) × (n ≤ limit) ⌝ }
-    requires { ⌜ (u * a % m ≡ 1 % m) × (1 < m) × (m ≤ 2 ^ 32) ⌝ }
-    ensures { λ r. ⌜ Reduced m r × Changed m n a b (now (f .entry)) r ⌝ }
+    requires { ⌜ Inverts m a u × Held m n (now f) ⌝ }
+    ensures { λ r. ⌜ PolynomialChanged m n a b (now (f .entry)) r ⌝ }
 {
     let p = moved(f, n, a, b, m);
     multiple(&p, residue::power(u, n, m), m)
@@ -226,8 +209,7 @@ struct Right {
 
 // h′ = a^(-s)·(h(a·x + b) - h(b)): the constant of h(a·x + b) is h(b).
 fn changed_right(h: &[u32], s: usize, a: u32, b: u32, u: u32, m: u64) -> Right
-    requires { ⌜ Reduced m (now h) × Monic m s (now h) × (0 < s) × (s ≤ limit) ⌝ }
-    requires { ⌜ (u * a % m ≡ 1 % m) × (1 < m) × (m ≤ 2 ^ 32) ⌝ }
+    requires { ⌜ Inverts m a u × Held m s (now h) ⌝ }
     ensures { λ r. ⌜ RightChanged m s a b (now (h .entry)) (r .part) (r .origin) ⌝ }
 {
     let mut p = moved(h, s, a, b, m);
@@ -241,9 +223,7 @@ fn changed_right(h: &[u32], s: usize, a: u32, b: u32, u: u32, m: u64) -> Right
 
 // The changed pair.
 fn changed_pair(g: &[u32], r: usize, h: &[u32], s: usize, a: u32, b: u32, u: u32, m: u64) -> Parts
-    requires { ⌜ Reduced m (now g) × Monic m r (now g) × (r ≤ limit) ⌝ }
-    requires { ⌜ Reduced m (now h) × Monic m s (now h) × (0 < s) × (s ≤ limit) ⌝ }
-    requires { ⌜ (u * a % m ≡ 1 % m) × (1 < m) × (m ≤ 2 ^ 32) ⌝ }
+    requires { ⌜ Inverts m a u × Held m r (now g) × Held m s (now h) ⌝ }
     ensures { λ x. ⌜ PairChanged m r s a b (now (g .entry)) (now (h .entry)) x ⌝ }
 {
     let right = changed_right(h, s, a, b, u, m);
@@ -265,36 +245,38 @@ fn changed_pair(g: &[u32], r: usize, h: &[u32], s: usize, a: u32, b: u32, u: u32
 
 // The operation: f changed by c.
 pub fn change_polynomial(m: u32, f: Coefficients, c: Change) -> Answer
-    ensures { λ x. ⌜ ChangesPolynomial m f c x ⌝ }
+    ensures { λ x. ⌜ ChangesPolynomial (modulus m) f c x ⌝ }
 {
+    let m = polynomial::modulus(m);
     let n = polynomial::degree(&f);
     let o = polynomial::check_one(m, &f, n);
     if refusal::refuses(o) {
         return polynomial::nothing(o);
     }
-    let t = proper(c, m as u64);
+    let t = proper(c, m);
     if !t.proper {
         return polynomial::nothing(improper());
     }
     Answer {
         outcome: Outcome::Answered,
-        polynomial: changed(&f, n, c.unit, c.origin, t.inverse, m as u64),
+        polynomial: changed(&f, n, c.unit, c.origin, t.inverse, m),
     }
 }
 
 // The operation: the pair g, h changed by c.
 pub fn change_pair(m: u32, g: Coefficients, h: Coefficients, c: Change) -> Parts
-    ensures { λ x. ⌜ ChangesPair m g h c x ⌝ }
+    ensures { λ x. ⌜ ChangesPair (modulus m) g h c x ⌝ }
 {
+    let m = polynomial::modulus(m);
     let r = polynomial::degree(&g);
     let s = polynomial::degree(&h);
     let o = polynomial::check_pair(m, &g, r, &h, s);
     if refusal::refuses(o) {
         return polynomial::no_parts(o);
     }
-    let t = proper(c, m as u64);
+    let t = proper(c, m);
     if !t.proper {
         return polynomial::no_parts(improper());
     }
-    changed_pair(&g, r, &h, s, c.unit, c.origin, t.inverse, m as u64)
+    changed_pair(&g, r, &h, s, c.unit, c.origin, t.inverse, m)
 }

@@ -15,7 +15,7 @@
 --   place-empty, place-full                                     where a part stands
 use mathlib.Core.Path.{_≡_, refl, sym, ap, _∙_}
 use mathlib.Core.List.{List, [], _∷_}
-use Prim.Native.Nat.{ℕ, zero, suc, _*_}
+use Prim.Native.Nat.{ℕ, zero, suc}
 use lib.ListN.{length}
 use Rattle.algebra.specs.Polynomial.{terms}
 use Rattle.polynomial.specs.declared.Answer.{Answer}
@@ -26,7 +26,7 @@ use Rattle.change.specs.declared.Change.{Change}
 use Rattle.change.specs.declared.Made.{Made}
 use Rattle.change.specs.Changing.{ChangesPolynomial, ChangesPair, Combines, Undoing}
 use Rattle.change.proofs.Determined.{change-polynomial-determined, change-pair-determined, combine-determined, undo-determined}
-use Rattle.area.specs.Area.{part-of}
+use Rattle.area.specs.Area.{start, part-of}
 use Rattle.chain.specs.declared.Chained.{Chained}
 use Rattle.chain.proofs.Promises.{chain-determined}
 use Rattle.desk.specs.Face.{told, CheckedAs, AnswersAs, PartsAs, MadeAs, ChainedAs, start-of, place-of}
@@ -104,10 +104,10 @@ pub place-empty : (xs : List ℕ) (i : ℕ) → length (part-of xs i) ≡ 0 → 
 unfolding place-of
 place-empty xs i e = rw e
 
-pub place-full : (xs : List ℕ) (i : ℕ) → ¬ (length (part-of xs i) ≡ 0) → (i * terms) ∷ length (part-of xs i) ∷ [] ≡ place-of xs i
+pub place-full : (xs : List ℕ) (i : ℕ) → ¬ (length (part-of xs i) ≡ 0) → start i ∷ length (part-of xs i) ∷ [] ≡ place-of xs i
 unfolding place-of
 place-full xs i h = go (length (part-of xs i)) h
   where
-    go : (n : ℕ) → ¬ (n ≡ 0) → (i * terms) ∷ n ∷ [] ≡ start-of n i ∷ n ∷ []
+    go : (n : ℕ) → ¬ (n ≡ 0) → start i ∷ n ∷ [] ≡ start-of n i ∷ n ∷ []
     go zero h = absurd (h refl)
     go (suc n) h = refl

@@ -1,7 +1,7 @@
 -- Polynomials of a few places as the desk holds them, and what the operations answer for them.
 --
 --   padded-at, padded-same                  padding adds no coefficient
---   Held m n p, held                        the desk takes p, padded, and n is its degree: by computation
+--   Taken m n p, taken                        the desk takes p, padded, and n is its degree: by computation
 --   split-found, split-none, split-shared   the answer to a split of f, padded, from a pair, from "no pair", from a shared factor
 --   left-found, left-none                   the answer to: the left part of f for h
 --   changes-to                              the answer to a change of f
@@ -28,40 +28,36 @@ use Rattle.polynomial.specs.Checks.{check-one, Accepted}
 use Rattle.polynomial.specs.Degrees.{Degrees}
 use Rattle.polynomial.proofs.Acceptance.{accepted-one, one-accepted, degree-fits}
 use Rattle.left.specs.Left.{NoLeft}
-use Rattle.left.specs.Powers.{composition}
+use Rattle.polynomial.proofs.Filling.{zeros}
+use Rattle.composition.specs.Composition.{composition}
 use Rattle.pair.specs.Pairing as pairing
 use Rattle.pair.proofs.Fitting.{degrees-fit}
 use Rattle.pair.proofs.Determined.{degrees-swap, accepted-left, accepted-split, composed-is, composed-reduced, composed-same}
 use Rattle.change.specs.Changing as changing
 use Rattle.desk.specs.Cases.{padded, splits, split-refused, left-part, left-refused, changes, composes, Holds, split-is, split-is-refused, left-part-is, left-is-refused, change-is, composition-is}
 
-zeros-at : (k i : ℕ) → coef (replicate k 0) i ≡ 0
-zeros-at zero i = refl
-zeros-at (suc k) zero = refl
-zeros-at (suc k) (suc i) = zeros-at k i
-
 zeros-after : (p : List ℕ) (k i : ℕ) → coef (p ++ replicate k 0) i ≡ coef p i
-zeros-after [] k i = zeros-at k i
+zeros-after [] k i = zeros k i
 zeros-after (a ∷ p) k zero = refl
 zeros-after (a ∷ p) k (suc i) = zeros-after p k i
 
 -- padding adds no coefficient
-pub padded-at : (p : List ℕ) (i : ℕ) → coef (padded p) i ≡ coef p i
+padded-at : (p : List ℕ) (i : ℕ) → coef (padded p) i ≡ coef p i
 unfolding padded
 padded-at p i = zeros-after p (terms - length p) i
 
-pub padded-same : {m : ℕ} (p : List ℕ) → Same m p (padded p)
+padded-same : {m : ℕ} (p : List ℕ) → Same m p (padded p)
 padded-same {m} p = record { at = λ i. ap (λ (c : ℕ). c % m) (sym (padded-at p i)) }
 
 -- the desk takes p, padded, and n is its degree
-pub record Held (m n : ℕ) (p : List ℕ) : Type 0 where
+pub record Taken (m n : ℕ) (p : List ℕ) : Type 0 where
   pub accepted : Accepted m (padded p)
   pub has : degree (padded p) ≡ n
 
-pub held : (m n : ℕ) (p : List ℕ) → length (padded p) ≡ terms → check-one m (padded p) ≡ Answered → degree (padded p) ≡ n → Held m n p
-held m n p l e d = record { accepted = accepted-one l e; has = d }
+pub taken : (m n : ℕ) (p : List ℕ) → length (padded p) ≡ terms → check-one m (padded p) ≡ Answered → degree (padded p) ≡ n → Taken m n p
+taken m n p l e d = record { accepted = accepted-one l e; has = d }
 
-module _ {m n : ℕ} {p : List ℕ} (a : Held m n p) where
+module _ {m n : ℕ} {p : List ℕ} (a : Taken m n p) where
   positive : 0 < m
   unfolding terms
   positive = omega (arith, a .accepted .reduced .below 0 (omega arith))
@@ -77,10 +73,10 @@ composed-padded : {m : ℕ} → 0 < m → (f g h : List ℕ) → Same m f (after
 composed-padded {m} pos f g h w = same-sym (padded-same f) ⨾ w ⨾ after-same m pos (padded-same g) (padded-same h)
 
 -- degrees that multiply to that of f fit
-fit : {m n r s : ℕ} {f : List ℕ} → Held m n f → 2 ≤ r → 2 ≤ s → r * s ≡ n → Degrees (degree (padded f)) r s
+fit : {m n r s : ℕ} {f : List ℕ} → Taken m n f → 2 ≤ r → 2 ≤ s → r * s ≡ n → Degrees (degree (padded f)) r s
 fit a l k e = record { product = e ∙ sym (a .has); within = degree-fits (a .accepted); two-left = l; two-right = k }
 
-module _ {m n r s : ℕ} {f : List ℕ} (a : Held m n f) (l : 2 ≤ r) (k : 2 ≤ s) (e : r * s ≡ n) where
+module _ {m n r s : ℕ} {f : List ℕ} (a : Taken m n f) (l : 2 ≤ r) (k : 2 ≤ s) (e : r * s ≡ n) where
   pub split-shared : (Coprime r m → ⊥) → Holds (split-refused m f r 5)
   split-shared d = split-is-refused Factor (pairing.shared (accepted-split (a .accepted) (fit a l k e)) d refl)
 
@@ -88,7 +84,7 @@ module _ {m n r s : ℕ} {f : List ℕ} (a : Held m n f) (l : 2 ≤ r) (k : 2 �
   split-none i n = split-is-refused NoPair (pairing.none (accepted-split (a .accepted) (fit a l k e)) (invertible-coprime m (positive a) i)
       (rw (degrees-fit (fit a l k e) .1) (λ g h p. n g h (record { left = p .left; right = p .right; whole = padded-same f ⨾ p .whole }))) refl)
 
-pub split-found : {m n r s : ℕ} {f g h : List ℕ} → Held m n f → Held m r g → Held m s h → r * s ≡ n → Invertible m r → Normal m h → Same m f (after g h)
+pub split-found : {m n r s : ℕ} {f g h : List ℕ} → Taken m n f → Taken m r g → Taken m s h → r * s ≡ n → Invertible m r → Normal m h → Same m f (after g h)
     → Holds (splits m f r g h)
 split-found {m} {n} {r} {s} {f} {g} {h} a b c e i z w =
     let d = fit a (two b) (two c) e in
@@ -100,7 +96,7 @@ split-found {m} {n} {r} {s} {f} {g} {h} a b c e i z w =
       reduced-right = c .accepted .reduced;
     })) refl)
 
-module _ {m n r s : ℕ} {f h : List ℕ} (a : Held m n f) (b : Held m s h) (l : 2 ≤ r) (e : r * s ≡ n) where
+module _ {m n r s : ℕ} {f h : List ℕ} (a : Taken m n f) (b : Taken m s h) (l : 2 ≤ r) (e : r * s ≡ n) where
   fits-for : Degrees (degree (padded f)) r (degree (padded h))
   fits-for = rw (b .has) (fit a l (two b) e)
 
@@ -108,20 +104,20 @@ module _ {m n r s : ℕ} {f h : List ℕ} (a : Held m n f) (b : Held m s h) (l :
   left-none n = left-is-refused NoPair (pairing.none (accepted-left (a .accepted) (b .accepted) fits-for)
       (rw (degrees-fit (degrees-swap fits-for) .1) (λ g k w. n g k (padded-same f ⨾ w ⨾ after-same m (positive a) (same-refl g) (same-sym (padded-same h))))) refl)
 
-pub left-found : {m n r s : ℕ} {f h g : List ℕ} → Held m n f → Held m s h → Held m r g → r * s ≡ n → Same m f (after g h) → Holds (left-part m f h g)
+pub left-found : {m n r s : ℕ} {f h g : List ℕ} → Taken m n f → Taken m s h → Taken m r g → r * s ≡ n → Same m f (after g h) → Holds (left-part m f h g)
 left-found {m} {f = f} {h = h} {g = g} a b c e w =
     let d = fits-for a b (two c) e in
     left-part-is (pairing.found {g = padded g} (accepted-left (a .accepted) (b .accepted) d)
     (rw (degrees-fit (degrees-swap d) .1) (record { reduced = c .accepted .reduced; monic = monic c; whole = composed-padded (positive a) f g h w })) refl)
 
-pub changes-to : {m n a b : ℕ} {f f′ : List ℕ} → Held m n f → Held m n f′ → ltb a m ≡ true → ltb b m ≡ true → Invertible m a → Changed m n a b f f′ → Holds (changes m f a b f′)
+pub changes-to : {m n a b : ℕ} {f f′ : List ℕ} → Taken m n f → Taken m n f′ → ltb a m ≡ true → ltb b m ≡ true → Invertible m a → Changed m n a b f f′ → Holds (changes m f a b f′)
 changes-to {m} {n} {a} {b} {f} {f′} x y l k i c = change-is (changing.changed {f′ = padded f′} (one-accepted (x .accepted))
     (record { unit-below = ltb-true a m l; origin-below = ltb-true b m k; invertible = invertible-coprime m (positive x) i }) (y .accepted .reduced)
     (rw (x .has) (record {
       same = scaled-same m (positive x) (a ^ n) (same-sym (padded-same f′)) ⨾ c .same ⨾ after-same m (positive x) (padded-same f) (same-refl (b ∷ a ∷ []));
     })) refl)
 
-pub composes-to : {m n r s : ℕ} {g h f : List ℕ} → Held m r g → Held m s h → Held m n f → r * s ≡ n → Same m f (after g h) → Holds (composes m g h f)
+pub composes-to : {m n r s : ℕ} {g h f : List ℕ} → Taken m r g → Taken m s h → Taken m n f → r * s ≡ n → Same m f (after g h) → Holds (composes m g h f)
 composes-to {m} {n} {r} {s} {g} {h} {f} b c a e w =
     composition-is (composed-is (b .accepted) (c .accepted) within ∙ ap (λ (p : List ℕ). record { outcome = Answered; polynomial = p }) same)
   where

@@ -24,7 +24,7 @@ use Rattle.polynomial.specs.Answers.{no-parts}
 use Rattle.polynomial.specs.Degrees.{Degrees}
 use Rattle.polynomial.specs.declared.Answer.{Answer}
 use Rattle.polynomial.specs.declared.Parts.{Parts}
-use Rattle.polynomial.proofs.Acceptance.{accepted-one, one-accepted, accepted-as, pair-accepted, accepted-changed}
+use Rattle.polynomial.proofs.Acceptance.{accepted-one, one-accepted, accepted-above, pair-accepted, accepted-changed}
 use Rattle.pair.specs.Pairing.{check-split, Splits}
 use Rattle.pair.specs.Pairing as pairing
 use Rattle.pair.proofs.Forcing.{fits-below}
@@ -60,7 +60,7 @@ module _ {m : ℕ} {c : Change} {f f′ : List ℕ} (x : Altered m c f f′) whe
   taken = accepted-one (x .long) (x .accepted)
 
   one : 1 < m
-  one = let (rf, mf, two, l, o, w) = accepted-as refl taken in o
+  one = accepted-above taken
 
   pos : 0 < m
   pos = let o = one in omega arith
@@ -97,8 +97,8 @@ module _ {m : ℕ} {c : Change} {f f′ : List ℕ} (x : Altered m c f f′) whe
 
         checked : check-pair m g h ≡ Answered
         checked = pair-accepted
-            (record { low = taken .low; high = taken .high; reduced = p .reduced-left; monic = rw dg (p .pair .left); two = rw dg (fit .two-left) })
-            (record { low = taken .low; high = taken .high; reduced = p .reduced-right; monic = rw dh (p .pair .right); two = rw dh (fit .two-right) })
+            (record { modulus = taken .modulus; reduced = p .reduced-left; monic = rw dg (p .pair .left); two = rw dg (fit .two-left) })
+            (record { modulus = taken .modulus; reduced = p .reduced-right; monic = rw dh (p .pair .right); two = rw dh (fit .two-right) })
             (rw (dg, dh, fit .product) (fit .within))
 
   -- no pair of f is no pair of the changed f

@@ -18,9 +18,10 @@ use Rattle.algebra.specs.Polynomial.{coef, plus, scaled, times, after, degree, 
 use Rattle.algebra.specs.Pair.{NoPair}
 use Rattle.algebra.proofs.Numbers.{table-below}
 use Rattle.algebra.proofs.ForcedPair.{forced-refutes, left-refutes}
-use Rattle.polynomial.specs.Checks.{smallest, largest, offending, check-modulus, check-coefficients, check-degree, check-leading, check-polynomial, check-one}
+use Rattle.polynomial.specs.Moduli.{smallest, largest, check-modulus}
+use Rattle.polynomial.specs.Checks.{offending, check-coefficients, check-degree, check-leading, check-polynomial, check-one}
 use Rattle.desk.specs.Cases.{padded, All, none, _and_, A, B, starred}
-use Rattle.desk.proofs.Padded.{held, split-found, split-none, split-shared, left-found, left-none, changes-to, composes-to}
+use Rattle.desk.proofs.Padded.{taken, split-found, split-none, split-shared, left-found, left-none, changes-to, composes-to}
 
 -- lists of at most k places that agree there
 same-check : (m k : ℕ) (p q : List ℕ) → leb (length p) k ≡ true → leb (length q) k ≡ true → table k (λ i. coef p i % m) ≡ table k (λ i. coef q i % m) → Same m p q
@@ -82,19 +83,19 @@ places = 24
 pub starred-hold : All starred
 unfolding after plus times scaled table padded limit terms degree highest smallest largest offending check-modulus check-coefficients check-degree check-leading check-polynomial check-one
 starred-hold =
-    split-found (held 101 6 _ refl refl refl) (held 101 3 _ refl refl refl) (held 101 2 _ refl refl refl) refl (record { inverse = 34; unit = refl }) (record { constant = refl }) (same-check 101 places _ _ refl refl refl) and
-    split-none (held 101 6 _ refl refl refl) (omega arith) (omega arith) refl (record { inverse = 51; unit = refl }) A-at-2 and
-    split-none (held 101 6 _ refl refl refl) (omega arith) (omega arith) refl (record { inverse = 34; unit = refl }) B-at-3 and
-    split-found (held 101 6 _ refl refl refl) (held 101 2 _ refl refl refl) (held 101 3 _ refl refl refl) refl (record { inverse = 51; unit = refl }) (record { constant = refl }) (same-check 101 places _ _ refl refl refl) and
-    left-found (held 101 6 _ refl refl refl) (held 101 2 _ refl refl refl) (held 101 3 _ refl refl refl) refl (same-check 101 places _ _ refl refl refl) and
-    split-found (held 4 9 _ refl refl refl) (held 4 3 _ refl refl refl) (held 4 3 _ refl refl refl) refl (record { inverse = 3; unit = refl }) (record { constant = refl }) (same-check 4 places _ _ refl refl refl) and
-    changes-to (held 101 4 _ refl refl refl) (held 101 4 _ refl refl refl) refl refl (record { inverse = 1; unit = refl }) (record { same = same-check 101 places _ _ refl refl refl }) and
-    split-found (held 101 4 _ refl refl refl) (held 101 2 _ refl refl refl) (held 101 2 _ refl refl refl) refl (record { inverse = 51; unit = refl }) (record { constant = refl }) (same-check 101 places _ _ refl refl refl) and
-    changes-to (held 5 4 _ refl refl refl) (held 5 4 _ refl refl refl) refl refl (record { inverse = 3; unit = refl }) (record { same = same-check 5 places _ _ refl refl refl }) and
-    split-found (held 5 4 _ refl refl refl) (held 5 2 _ refl refl refl) (held 5 2 _ refl refl refl) refl (record { inverse = 3; unit = refl }) (record { constant = refl }) (same-check 5 places _ _ refl refl refl) and
-    split-shared {s = 2} (held 2 4 _ refl refl refl) (omega arith) (omega arith) refl (λ c. let z = c .only-one 2 (N.dvd-refl 2) (N.dvd-refl 2) in omega arith) and
-    left-found (held 2 4 _ refl refl refl) (held 2 2 _ refl refl refl) (held 2 2 _ refl refl refl) refl (same-check 2 places _ _ refl refl refl) and
-    left-none (held 2 4 _ refl refl refl) (held 2 2 _ refl refl refl) (omega arith) refl I-none and
-    composes-to (held 2 2 _ refl refl refl) (held 2 2 _ refl refl refl) (held 2 4 _ refl refl refl) refl (same-check 2 places _ _ refl refl refl) and
-    composes-to (held 2 2 _ refl refl refl) (held 2 2 _ refl refl refl) (held 2 4 _ refl refl refl) refl (same-check 2 places _ _ refl refl refl) and
+    split-found (taken 101 6 _ refl refl refl) (taken 101 3 _ refl refl refl) (taken 101 2 _ refl refl refl) refl (record { inverse = 34; unit = refl }) (record { constant = refl }) (same-check 101 places _ _ refl refl refl) and
+    split-none (taken 101 6 _ refl refl refl) (omega arith) (omega arith) refl (record { inverse = 51; unit = refl }) A-at-2 and
+    split-none (taken 101 6 _ refl refl refl) (omega arith) (omega arith) refl (record { inverse = 34; unit = refl }) B-at-3 and
+    split-found (taken 101 6 _ refl refl refl) (taken 101 2 _ refl refl refl) (taken 101 3 _ refl refl refl) refl (record { inverse = 51; unit = refl }) (record { constant = refl }) (same-check 101 places _ _ refl refl refl) and
+    left-found (taken 101 6 _ refl refl refl) (taken 101 2 _ refl refl refl) (taken 101 3 _ refl refl refl) refl (same-check 101 places _ _ refl refl refl) and
+    split-found (taken 4 9 _ refl refl refl) (taken 4 3 _ refl refl refl) (taken 4 3 _ refl refl refl) refl (record { inverse = 3; unit = refl }) (record { constant = refl }) (same-check 4 places _ _ refl refl refl) and
+    changes-to (taken 101 4 _ refl refl refl) (taken 101 4 _ refl refl refl) refl refl (record { inverse = 1; unit = refl }) (record { same = same-check 101 places _ _ refl refl refl }) and
+    split-found (taken 101 4 _ refl refl refl) (taken 101 2 _ refl refl refl) (taken 101 2 _ refl refl refl) refl (record { inverse = 51; unit = refl }) (record { constant = refl }) (same-check 101 places _ _ refl refl refl) and
+    changes-to (taken 5 4 _ refl refl refl) (taken 5 4 _ refl refl refl) refl refl (record { inverse = 3; unit = refl }) (record { same = same-check 5 places _ _ refl refl refl }) and
+    split-found (taken 5 4 _ refl refl refl) (taken 5 2 _ refl refl refl) (taken 5 2 _ refl refl refl) refl (record { inverse = 3; unit = refl }) (record { constant = refl }) (same-check 5 places _ _ refl refl refl) and
+    split-shared {s = 2} (taken 2 4 _ refl refl refl) (omega arith) (omega arith) refl (λ c. let z = c .only-one 2 (N.dvd-refl 2) (N.dvd-refl 2) in omega arith) and
+    left-found (taken 2 4 _ refl refl refl) (taken 2 2 _ refl refl refl) (taken 2 2 _ refl refl refl) refl (same-check 2 places _ _ refl refl refl) and
+    left-none (taken 2 4 _ refl refl refl) (taken 2 2 _ refl refl refl) (omega arith) refl I-none and
+    composes-to (taken 2 2 _ refl refl refl) (taken 2 2 _ refl refl refl) (taken 2 4 _ refl refl refl) refl (same-check 2 places _ _ refl refl refl) and
+    composes-to (taken 2 2 _ refl refl refl) (taken 2 2 _ refl refl refl) (taken 2 4 _ refl refl refl) refl (same-check 2 places _ _ refl refl refl) and
     none

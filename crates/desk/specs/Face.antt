@@ -9,9 +9,8 @@
 --   place-of xs i       where part i stands in the area xs: its start and its length, 0 and 0 if it is empty
 use mathlib.Core.Path.{_≡_}
 use mathlib.Core.List.{List, [], _∷_}
-use Prim.Native.Nat.{ℕ, zero, suc, _*_}
+use Prim.Native.Nat.{ℕ, zero, suc}
 use lib.ListN.{length}
-use Rattle.algebra.specs.Polynomial.{terms}
 use Rattle.refusal.specs.Refusal.{number, polynomial, power}
 use Rattle.refusal.specs.declared.Outcome.{Outcome}
 use Rattle.refusal.specs.declared.Outcome.the-variants.{Answered, Refused}
@@ -20,7 +19,7 @@ use Rattle.polynomial.specs.declared.Parts.{Parts}
 use Rattle.change.specs.declared.Made.{Made}
 use Rattle.chain.specs.declared.Chained.{Chained}
 use Rattle.chain.specs.Chaining.{ChainOf}
-use Rattle.area.specs.Area.{part-of}
+use Rattle.area.specs.Area.{start, part-of}
 use Rattle.record.specs.Record.{checked}
 use Rattle.desk.specs.declared.Refused as face
 
@@ -68,7 +67,7 @@ pub record ChainedAs (m : ℕ) (f xs ys : List ℕ) (r : face.Refused) (numbers 
 -- an empty part stands nowhere
 abbrev pub start-of : ℕ → ℕ → ℕ
 start-of zero i = 0
-start-of (suc n) i = i * terms
+start-of (suc n) i = start i
 
 -- start and length of part i
 unfoldable pub place-of : List ℕ → ℕ → List ℕ

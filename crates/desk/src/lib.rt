@@ -1,7 +1,8 @@
 // The face of the desk for C and Rust: numbers and lent memory only. Every function takes any input.
 ghost use mathlib.Core.Path.{_≡_};
+ghost use Rattle.polynomial.specs.Moduli.{modulus};
 ghost use Rattle.pair.specs.Pairing.{compose, LeftPartOf, Splits};
-ghost use Rattle.change.specs.Changing.{ChangesPolynomial, ChangesPair, Combines, Undoing};
+ghost use Rattle.change.specs.Changing.{made, ChangesPolynomial, ChangesPair, Combines, Undoing};
 ghost use Rattle.desk.specs.Face.{told as told-of, CheckedAs, AnswersAs, PartsAs, MadeAs, ChainedAs, place-of};
 use change::Change;
 use polynomial::TERMS;
@@ -63,7 +64,7 @@ pub extern "C" fn desk_compose(
     h: &[u32; TERMS],
     f: &mut [u32; TERMS],
 ) -> Refused
-    ensures { λ r. ⌜ AnswersAs (λ x. x ≡ compose m (now (g .entry)) (now (h .entry))) r (now (f .exit)) ⌝ }
+    ensures { λ r. ⌜ AnswersAs (λ x. x ≡ compose (modulus m) (now (g .entry)) (now (h .entry))) r (now (f .exit)) ⌝ }
 {
     let a = pair::compose(m, *g, *h);
     let p = a.polynomial;
@@ -80,7 +81,7 @@ pub extern "C" fn desk_left_part(
     h: &[u32; TERMS],
     g: &mut [u32; TERMS],
 ) -> Refused
-    ensures { λ r. ⌜ AnswersAs (LeftPartOf m (now (f .entry)) (now (h .entry))) r (now (g .exit)) ⌝ }
+    ensures { λ r. ⌜ AnswersAs (LeftPartOf (modulus m) (now (f .entry)) (now (h .entry))) r (now (g .exit)) ⌝ }
 {
     let a = pair::left_part(m, *f, *h);
     let p = a.polynomial;
@@ -98,7 +99,7 @@ pub extern "C" fn desk_split(
     g: &mut [u32; TERMS],
     h: &mut [u32; TERMS],
 ) -> Refused
-    ensures { λ x. ⌜ PartsAs (Splits m (now (f .entry)) r) x (now (g .exit)) (now (h .exit)) ⌝ }
+    ensures { λ x. ⌜ PartsAs (Splits (modulus m) (now (f .entry)) r) x (now (g .exit)) (now (h .exit)) ⌝ }
 {
     let a = pair::split(m, *f, r);
     let left = a.left;
@@ -118,9 +119,9 @@ pub extern "C" fn desk_change_polynomial(
     b: u32,
     out: &mut [u32; TERMS],
 ) -> Refused
-    ensures { λ r. ⌜ AnswersAs (ChangesPolynomial m (now (f .entry)) (record { unit = a; origin = b })) r (now (out .exit)) ⌝ }
+    ensures { λ r. ⌜ AnswersAs (ChangesPolynomial (modulus m) (now (f .entry)) (made a b)) r (now (out .exit)) ⌝ }
 {
-    let x = change::change_polynomial(m, *f, Change { unit: a, origin: b });
+    let x = change::change_polynomial(m, *f, Change::make(a, b));
     let p = x.polynomial;
     *out = p;
     let outcome = x.outcome;
@@ -138,9 +139,9 @@ pub extern "C" fn desk_change_pair(
     left: &mut [u32; TERMS],
     right: &mut [u32; TERMS],
 ) -> Refused
-    ensures { λ r. ⌜ PartsAs (ChangesPair m (now (g .entry)) (now (h .entry)) (record { unit = a; origin = b })) r (now (left .exit)) (now (right .exit)) ⌝ }
+    ensures { λ r. ⌜ PartsAs (ChangesPair (modulus m) (now (g .entry)) (now (h .entry)) (made a b)) r (now (left .exit)) (now (right .exit)) ⌝ }
 {
-    let x = change::change_pair(m, *g, *h, Change { unit: a, origin: b });
+    let x = change::change_pair(m, *g, *h, Change::make(a, b));
     let p = x.left;
     let q = x.right;
     *left = p;
@@ -159,16 +160,9 @@ pub extern "C" fn desk_combine(
     b2: u32,
     out: &mut [u32; 2],
 ) -> Refused
-    ensures { λ r. ⌜ MadeAs (Combines m (record { unit = a; origin = b }) (record { unit = a2; origin = b2 })) r (now (out .exit)) ⌝ }
+    ensures { λ r. ⌜ MadeAs (Combines (modulus m) (made a b) (made a2 b2)) r (now (out .exit)) ⌝ }
 {
-    let x = Change::combine(
-        m,
-        Change { unit: a, origin: b },
-        Change {
-            unit: a2,
-            origin: b2,
-        },
-    );
+    let x = Change::combine(m, Change::make(a, b), Change::make(a2, b2));
     let c = x.change;
     *out = [c.unit, c.origin];
     let outcome = x.outcome;
@@ -178,9 +172,9 @@ pub extern "C" fn desk_combine(
 // The change that undoes (a, b).
 #[no_mangle]
 pub extern "C" fn desk_undo(m: u32, a: u32, b: u32, out: &mut [u32; 2]) -> Refused
-    ensures { λ r. ⌜ MadeAs (Undoing m (record { unit = a; origin = b })) r (now (out .exit)) ⌝ }
+    ensures { λ r. ⌜ MadeAs (Undoing (modulus m) (made a b)) r (now (out .exit)) ⌝ }
 {
-    let x = Change::undo(m, Change { unit: a, origin: b });
+    let x = Change::undo(m, Change::make(a, b));
     let c = x.change;
     *out = [c.unit, c.origin];
     let outcome = x.outcome;
@@ -195,7 +189,7 @@ pub extern "C" fn desk_chain(
     area: &mut [u32],
     numbers: &mut [usize; 3],
 ) -> Refused
-    ensures { λ r. ⌜ ChainedAs m (now (f .entry)) (now (area .entry)) (now (area .exit)) r (now (numbers .exit)) ⌝ }
+    ensures { λ r. ⌜ ChainedAs (modulus m) (now (f .entry)) (now (area .entry)) (now (area .exit)) r (now (numbers .exit)) ⌝ }
 {
     let x = chain::chain(m, *f, area);
     *numbers = [x.parts, x.tries, x.price];
@@ -214,5 +208,5 @@ pub extern "C" fn desk_part(area: &[u32], i: usize, place: &mut [usize; 2])
         *place = [0, 0];
         return;
     }
-    *place = [i * TERMS, n];
+    *place = [area::start(i), n];
 }

@@ -1,5 +1,4 @@
 pub mod Summing
 pub mod Rowing
 pub mod Solving
-pub mod Composing
 pub mod Comparing

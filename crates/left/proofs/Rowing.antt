@@ -1,6 +1,5 @@
 -- The rows as `powers` and `next_row` fill them.
 --
---   nothing                    a list of zeros holds 0 at every place
 --   row-within                 a power whose degree is within the limit has its row
 --   power-within               so have the lower ones
 --   Rowed m h i k t            the rows to i are full, of the next one k places are, and the rest is 0
@@ -8,7 +7,7 @@
 --   rowed-all                  a row is full as soon as its degree is reached
 --   blank-long, blank-place    a list of zeros has all rows, and with them a first place
 --   first-row                  row 0 by itself
-use mathlib.Core.Path.{_≡_, refl, sym, ap, ap₂, _∙_}
+use mathlib.Core.Path.{_≡_, sym, ap, ap₂, _∙_}
 use mathlib.Core.Logic.{_⊎_, inl, inr, ⊎-elim}
 use mathlib.Core.List.{List, [], _∷_}
 use Prim.Native.Nat.{ℕ, zero, suc, _+_, _*_, _%_, _≤_, _<_, min}
@@ -22,16 +21,12 @@ use Rattle.algebra.specs.Polynomial.{coef, times, power, limit, terms, Monic, R
 use Rattle.algebra.proofs.Reduction.{reduced-above}
 use Rattle.algebra.proofs.System.{power-monic}
 use Rattle.residue.specs.Residue.{inner}
-use Rattle.left.specs.Powers.{rows, Powers}
+use Rattle.polynomial.proofs.Filling.{zeros}
+use Rattle.left.specs.Powers.{powers-kept, Powers}
 use Rattle.left.proofs.Summing.{row-product}
 
-pub nothing : (n i : ℕ) → coef (replicate n 0) i ≡ 0
-nothing zero i = refl
-nothing (suc n) zero = refl
-nothing (suc n) (suc i) = nothing n i
-
-pub row-within : {r s : ℕ} → 2 ≤ s → r * s ≤ limit → r < rows
-unfolding rows
+pub row-within : {r s : ℕ} → 2 ≤ s → r * s ≤ limit → r < powers-kept
+unfolding powers-kept
 row-within {r} {s} l b = omega (arith, N.mul-le-mul-left {m = 2} {n = s} r l)
 
 pub power-within : {i r : ℕ} (s : ℕ) → i ≤ r → r * s ≤ limit → i * s ≤ limit
@@ -43,7 +38,7 @@ power-next h i = rw (add-one i)
 
 -- the rows to i, and k places of the next one
 pub record Rowed (m : ℕ) (h : List ℕ) (i k : ℕ) (t : List ℕ) : Type 0 where
-  pub long : length t ≡ rows * terms
+  pub long : length t ≡ powers-kept * terms
   pub is : (j l : ℕ) → j ≤ i → l < terms → coef t (j * terms + l) ≡ coef (power h j) l % m
   pub next : (l : ℕ) → l < k → coef t ((i + 1) * terms + l) ≡ coef (power h (i + 1)) l % m
   pub rest : (j : ℕ) → (i + 1) * terms + k ≤ j → coef t j ≡ 0
@@ -53,7 +48,7 @@ pub rowed-none : {m i : ℕ} {h t : List ℕ} → Powers m h i t → Rowed m h i
 rowed-none p = record { long = p .long; is = p .is; next = λ l b. absurd (N.not-suc-le-zero b); rest = λ j b. p .rest j (omega arith) }
 
 -- one place more: the product with h of what row i has there and below
-pub rowed-more : {m i k s : ℕ} {h t : List ℕ} {at to n x : ℕ} → Reduced m h → Monic m s h → i + 1 < rows → k < terms
+pub rowed-more : {m i k s : ℕ} {h t : List ℕ} {at to n x : ℕ} → Reduced m h → Monic m s h → i + 1 < powers-kept → k < terms
     → x ≡ inner h t at 0 n % m → at ≡ i * terms + k → n ≡ min k s + 1 → to ≡ (i + 1) * terms + k
     → Rowed m h i k t → Rowed m h i (k + 1) (set t to x)
 rowed-more {m} {i} {k} {s} {h} {t} {at} {to} {n} {x} red mon fits inside ex ea en eto c =
@@ -69,7 +64,7 @@ rowed-more {m} {i} {k} {s} {h} {t} {at} {to} {n} {x} red mon fits inside ex ea e
     }
   where
     there : to < length t
-    there = let e = c .long in omega (arith, N.mul-le-mul-right {m = i + 2} {n = rows} terms (omega arith))
+    there = let e = c .long in omega (arith, N.mul-le-mul-right {m = i + 2} {n = powers-kept} terms (omega arith))
 
     here : coef (set t to x) ((i + 1) * terms + k) ≡ coef (power h (i + 1)) k % m
     here = ap (coef (set t to x)) (sym eto) ∙ getD-set-same t to x 0 there ∙ ex ∙ ap₂ (λ (a b : ℕ). inner h t a 0 b % m) ea en
@@ -87,20 +82,20 @@ rowed-all {m} {i} {k} {s} {h} {t} pos mon fits e c = record { long = c .long; is
     go j l (inr b) d q = c .is j l (omega arith) d
 
 -- before the first store
-pub blank-long : {t : List ℕ} → t ≡ replicate (rows * terms) 0 → length t ≡ rows * terms
-blank-long e = ap length e ∙ length-replicate (rows * terms) 0
+pub blank-long : {t : List ℕ} → t ≡ replicate (powers-kept * terms) 0 → length t ≡ powers-kept * terms
+blank-long e = ap length e ∙ length-replicate (powers-kept * terms) 0
 
-pub blank-place : {t : List ℕ} → t ≡ replicate (rows * terms) 0 → 0 < length t
-unfolding rows terms
+pub blank-place : {t : List ℕ} → t ≡ replicate (powers-kept * terms) 0 → 0 < length t
+unfolding powers-kept terms
 blank-place e = omega (arith, blank-long e)
 
 -- h^0 is 1
-pub first-row : {m : ℕ} {t : List ℕ} (h : List ℕ) → 1 < m → t ≡ replicate (rows * terms) 0 → Powers m h 0 (set t 0 1)
+pub first-row : {m : ℕ} {t : List ℕ} (h : List ℕ) → 1 < m → t ≡ replicate (powers-kept * terms) 0 → Powers m h 0 (set t 0 1)
 unfolding power terms
 first-row {m} {t} h two e = record { long = length-set t 0 1 ∙ blank-long e; is = λ j k b d. row j k b; rest = λ j b. zero-at j (omega arith) }
   where
     zero-at : (j : ℕ) → 0 < j → coef (set t 0 1) j ≡ 0
-    zero-at j b = getD-set-other t 0 j 1 0 (omega arith) ∙ ap (λ (l : List ℕ). coef l j) e ∙ nothing (rows * terms) j
+    zero-at j b = getD-set-other t 0 j 1 0 (omega arith) ∙ ap (λ (l : List ℕ). coef l j) e ∙ zeros (powers-kept * terms) j
 
     one : (k : ℕ) → coef (set t 0 1) k ≡ coef (1 ∷ []) k % m
     one zero = getD-set-same t 0 1 0 (blank-place e) ∙ sym (N.mod-eq-of-lt two)

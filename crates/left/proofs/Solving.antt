@@ -20,8 +20,9 @@ use Rattle.algebra.specs.Polynomial.{coef, power, after, terms, limit, Monic, R
 use Rattle.algebra.proofs.System.{system-solved}
 use Rattle.residue.specs.Residue.{strided}
 use Rattle.residue.proofs.Inner.{strided-none, strided-extensional}
-use Rattle.left.specs.Powers.{rows, Powers, Solves}
-use Rattle.left.proofs.Rowing.{nothing, row-within, power-within}
+use Rattle.polynomial.proofs.Filling.{zeros}
+use Rattle.left.specs.Powers.{powers-kept, Powers, Solves}
+use Rattle.left.proofs.Rowing.{row-within, power-within}
 use Rattle.left.proofs.Summing.{strided-powers}
 
 -- the places from j on
@@ -34,8 +35,8 @@ pub record Solving (m : ℕ) (f t : List ℕ) (r s j : ℕ) (g : List ℕ) : Typ
 pub solving-none : {m r s : ℕ} {f t : List ℕ} → 0 < m → Solving m f t r s (r + 1) (replicate terms 0)
 solving-none {m} pos =
     record {
-      reduced = record { long = length-replicate terms 0; below = λ i l. rw (nothing terms i) pos };
-      past = λ i l. nothing terms i;
+      reduced = record { long = length-replicate terms 0; below = λ i l. rw (zeros terms i) pos };
+      past = λ i l. zeros terms i;
       solved = λ i l b. absurd (omega arith);
     }
 
@@ -87,7 +88,7 @@ solving-all c = record { reduced = c .reduced; past = c .past; solved = λ j l. 
 -- at x^(js) the rows hold the coefficients of the powers
 pub solves-system : {m r s : ℕ} {f t g h : List ℕ} → 0 < m → 2 ≤ s → r * s ≤ limit → Monic m s h → Powers m h r t → Solves m f t r s g
     → (j : ℕ) → j ≤ r → coef f (j * s) % m ≡ coef (after g h) (j * s) % m
-unfolding rows terms
+unfolding powers-kept terms
 solves-system {m} {r} {s} {f} {t} {g} {h} pos two fits mon full c = system-solved m pos f g (omega arith) mon long (c .past) row
   where
     long : suc r ≤ length g

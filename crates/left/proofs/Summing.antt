@@ -2,7 +2,7 @@
 --
 --   row-product       h against a row, backwards: a coefficient of the product
 --   strided-powers    g against the rows, at one place of each: g's coefficients times those of the powers
---   column-after      all rows: the coefficient of g(h)
+--   row-sum-after      all rows: the coefficient of g(h)
 use mathlib.Core.Path.{_≡_, sym, ap, ap₂, _∙_}
 use mathlib.Core.List.{List}
 use Prim.Native.Nat.{ℕ, zero, suc, _+_, _*_, _-_, _%_, _≤_, _<_, min}
@@ -11,20 +11,13 @@ use native.Mathlib.Omega.{arith}
 use lib.ListN.{length}
 use Rattle.algebra.specs.Number.{sum}
 use Rattle.algebra.specs.Polynomial.{coef, times, power, after, terms, Monic, Reduced}
-use Rattle.algebra.proofs.Numbers.{mul-mod-mod, sum-none, sum-more, sum-split, sum-zeros, sum-ext}
+use Rattle.algebra.proofs.Numbers.{mul-mod-mod, sum-none, sum-more, sum-clip, sum-ext}
 use Rattle.algebra.proofs.Coefficients.{coef-times}
 use Rattle.algebra.proofs.Reduction.{reduced-above}
 use Rattle.algebra.proofs.System.{after-sum}
 use Rattle.residue.specs.Residue.{inner, strided}
 use Rattle.residue.proofs.Inner.{inner-none, inner-more, strided-none, strided-more}
-use Rattle.left.specs.Powers.{rows, Powers, column}
-
--- the terms from n on are 0
-sum-clip : (n d : ℕ) (f : ℕ → ℕ) → n ≤ d → ((i : ℕ) → n ≤ i → i < d → f i ≡ 0) → sum d f ≡ sum n f
-sum-clip n d f l z =
-    let e : d ≡ n + (d - n) = omega arith in
-    ap (λ (k : ℕ). sum k f) e ∙ sum-split n (d - n) f
-    ∙ ap (λ (x : ℕ). sum n f + x) (sum-zeros (d - n) _ (λ i b. z (n + i) (omega arith) (omega arith))) ∙ N.add-zero _
+use Rattle.left.specs.Powers.{powers-kept, Powers, row-sum}
 
 -- one term more, whose second factor is known modulo m
 term-more : (m x y a b : ℕ) → x % m ≡ y % m → (x + a * (b % m)) % m ≡ (y + a * b) % m
@@ -58,9 +51,9 @@ module _ {m r : ℕ} {h t : List ℕ} (full : Powers m h r t) (g : List ℕ) (k 
       ∙ ap (λ (x : ℕ). x % m) (sym (sum-more n (λ i. coef g (lo + i) * coef (power h (lo + i)) k)))
 
   -- the rows to r are all that g asks for
-  pub column-after : r < rows → Reduced m g → Monic m r g → column m g t r k ≡ coef (after g h) k % m
-  unfolding column rows terms
-  column-after fits red mon = strided-powers 0 (r + 1) (omega arith) (omega arith)
+  pub row-sum-after : r < powers-kept → Reduced m g → Monic m r g → row-sum m g t r k ≡ coef (after g h) k % m
+  unfolding row-sum powers-kept terms
+  row-sum-after fits red mon = strided-powers 0 (r + 1) (omega arith) (omega arith)
       ∙ ap (λ (x : ℕ). x % m) (sym (after-sum g h k ∙ clip ∙ sum-ext (r + 1) _ _ (λ i l. rw (N.zero-add i))))
     where
       clip : sum (length g) (λ i. coef g i * coef (power h i) k) ≡ sum (r + 1) (λ i. coef g i * coef (power h i) k)

@@ -7,7 +7,6 @@
 --   decimal n                 the decimal digits of n in ASCII
 --   spaced l                  each number of l after a space
 --   fields x l                the numbers x and l with single spaces between them, and a newline
---   left-to-right l           a list from the right, read from the left
 --   Put xs at t most ys r     t was put into xs at index at, nothing else has changed, and r is the index after it
 use mathlib.Core.Path.{_≡_}
 use mathlib.Core.Bool.{cond}
@@ -61,11 +60,6 @@ spaced (x ∷ l) = space ∷ (decimal x ++ spaced l)
 -- a line
 unfoldable pub fields : ℕ → List ℕ → List ℕ
 fields x l = decimal x ++ (spaced l ++ (newline ∷ []))
-
--- the other way round
-unfoldable pub left-to-right : List ℕ → List ℕ
-left-to-right [] = []
-left-to-right (d ∷ l) = left-to-right l ++ (d ∷ [])
 
 -- text in a buffer, at most `most` bytes of it
 pub record Put (xs : List ℕ) (at : ℕ) (text : List ℕ) (most : ℕ) (ys : List ℕ) (r : ℕ) : Type 0 where

@@ -6,8 +6,6 @@ ghost use lib.ListN.{length};
 ghost use Rattle.algebra.specs.Number.{table};
 ghost use Rattle.algebra.specs.Polynomial.{degree as degree-of};
 ghost use Rattle.area.specs.Area.{most-parts, area-words, place};
-ghost use Rattle.refusal.specs.declared.Outcome.the-variants.{Answered};
-ghost use Rattle.polynomial.specs.Checks.{check-one};
 ghost use Rattle.record.specs.Record.{record-bytes};
 ghost use Rattle.listing.specs.Listing.{number-of, LineIn, AcceptedIn, most-records, most-lines, LinesIn, RecordEnd};
 ghost use Rattle.listing.specs.Text.{most-digits, most-field, before-degrees, most-line, decimal, spaced as spaced-of, fields, Put};
@@ -72,9 +70,9 @@ fn degrees(area: &[u32], parts: usize, out: &mut [u8], at: usize) -> usize
 {
     let mut k = at;
     for i in 0..parts {
-        let start = i * TERMS;
-        let end = start + TERMS;
-        let d = polynomial::degree(&area[start..end]);
+        let from = area::start(i);
+        let end = from + TERMS;
+        let d = polynomial::degree(&area[from..end]);
         k = spaced(d as u32, out, k);
     }
     k
@@ -138,7 +136,7 @@ fn number_of(o: Outcome) -> u32
 
 // The line of a record that its check accepts: m and f are its words, n the degree of f.
 fn accepted_line(m: u32, f: Coefficients, n: usize, number: u32, out: &mut [u8]) -> usize
-    requires { ⌜ (check-one m f ≡ Answered) × (n ≡ degree-of f) × (most-line ≤ length (now out)) ⌝ }
+    requires { ⌜ (n ≡ degree-of f) × (most-line ≤ length (now out)) ⌝ }
     ensures { λ r. ⌜ AcceptedIn m f number (now (out .entry)) (now (out .exit)) r ⌝ }
 {
     let mut area = [0; area::WORDS];

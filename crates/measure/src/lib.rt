@@ -1,10 +1,11 @@
-// The leaves that the benchmark times, for Rust. Each answers 0 where what its leaf requires does not hold.
+// The leaves that the benchmark times, for Rust. Nothing is promised of what they answer; that they are safe and end is proved.
 const MOST: u64 = 0x1_0000_0000;
 
-// The first out.len() coefficients of a product: inner products of every length from 1 on.
+// The first out.len() coefficients of a product: inner products of every length from 1 on. Where the leaf's requirements do
+// not hold, out stays as it was.
 #[no_mangle]
 pub extern "C" fn measure_product(a: &[u32], b: &[u32], m: u64, out: &mut [u32]) {
-    if m == 0 {
+    if m < 2 {
         return;
     }
     if MOST < m {
@@ -26,9 +27,10 @@ pub extern "C" fn measure_product(a: &[u32], b: &[u32], m: u64, out: &mut [u32])
     }
 }
 
+// a^n modulo m, and 0 where m is no modulus.
 #[no_mangle]
 pub extern "C" fn measure_power(a: u32, n: usize, m: u64) -> u32 {
-    if m == 0 {
+    if m < 2 {
         return 0;
     }
     if MOST < m {
@@ -37,6 +39,7 @@ pub extern "C" fn measure_power(a: u32, n: usize, m: u64) -> u32 {
     residue::power(a, n, m)
 }
 
+// The inverse of a modulo m, and 0 where there is none or m is no modulus.
 #[no_mangle]
 pub extern "C" fn measure_invert(a: u64, m: u64) -> u64 {
     if m < 2 {

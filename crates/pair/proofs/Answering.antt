@@ -2,7 +2,7 @@
 --
 --   fit-stopped, fit-refused, fit-passed     the checks before No. 6, and No. 6 itself
 --   composed-refused, composed-told          the answer to: compose
---   left-refused, left-misfit, left-none, left-found     the answer to: the left part
+--   left-refused, left-misfit, left-told     the answer to: the left part
 --   split-refused, split-misfit, split-told  the answer to: a split
 use mathlib.Core.Path.{_≡_, sym, ap, _∙_}
 use mathlib.Core.Bool.{Bool, true, false, not}
@@ -11,7 +11,7 @@ use Prim.Native.Nat.{ℕ, _/_}
 use Rattle.algebra.specs.Polynomial.{degree}
 use Rattle.refusal.specs.Refusal.{refusal, refuse, _then_, is-refused}
 use Rattle.refusal.specs.declared.Concerns.the-variants.{Neither}
-use Rattle.refusal.specs.declared.Reason.the-variants.{Fit, NoPair}
+use Rattle.refusal.specs.declared.Reason.the-variants.{Fit}
 use Rattle.refusal.specs.declared.Outcome.{Outcome}
 use Rattle.refusal.specs.declared.Outcome.the-variants.{Answered}
 use Rattle.refusal.proofs.Outcomes.{then-refused, then-answered, a-refusal, answered}
@@ -19,12 +19,11 @@ use Rattle.polynomial.specs.Checks.{check-one, check-two, check-pair}
 use Rattle.polynomial.specs.Answers.{nothing, no-parts}
 use Rattle.polynomial.specs.declared.Answer.{Answer}
 use Rattle.polynomial.specs.declared.Parts.{Parts}
-use Rattle.left.specs.Left.{Answers}
-use Rattle.left.specs.Powers.{composition}
-use Rattle.pair.specs.Pairing.{fits, compose, check-left, LeftPartOf, check-split, Splits, Halved, told}
+use Rattle.left.specs.Left.{LeftAnswer}
+use Rattle.left.specs.Left as left
+use Rattle.composition.specs.Composition.{composition}
+use Rattle.pair.specs.Pairing.{fits, compose, check-left, LeftPartOf, check-split, Splits, SplitAnswer}
 use Rattle.pair.specs.Pairing as of
-use Rattle.pair.specs.declared.Verdict.{Verdict}
-use Rattle.pair.specs.declared.Verdict.the-variants as verdict
 
 module _ {checks o : Outcome} (e : o ≡ checks) where
   fit-stopped : (b : Bool) → is-refused o ≡ true → (checks then refuse (not b) Neither Fit) ≡ o
@@ -58,17 +57,13 @@ module _ (m : ℕ) (f h : List ℕ) {n s : ℕ} {o : Outcome} (o-is : o ≡ chec
     unfolding check-left
     left-misfit t q e = of.refused (fit-refused o-is fine (same ∙ t)) (e ∙ ap nothing q)
 
-    pub left-passed : b ≡ true → check-left m f h ≡ Answered
+    left-passed : b ≡ true → check-left m f h ≡ Answered
     unfolding check-left
     left-passed t = fit-passed o-is fine (same ∙ t)
 
-    pub left-none : {g : List ℕ} {found : Bool} {p : Outcome} {x : Answer} → b ≡ true → Answers m f (n / s) h found g → found ≡ false
-        → p ≡ refusal Neither NoPair → x ≡ nothing p → LeftPartOf m f h x
-    left-none t a z q e = of.none (left-passed t) (rw (← n-is, ← s-is) (a .no z)) (e ∙ ap nothing q)
-
-    pub left-found : {g : List ℕ} {found : Bool} {x : Answer} → b ≡ true → Answers m f (n / s) h found g → found ≡ true
-        → x ≡ record { outcome = Answered; polynomial = g } → LeftPartOf m f h x
-    left-found {g} t a z e = of.found {g = g} (left-passed t) (rw (← n-is, ← s-is) (a .yes z)) e
+    pub left-told : {x : Answer} → b ≡ true → LeftAnswer m f (n / s) h x → LeftPartOf m f h x
+    left-told t (left.none a e) = of.none (left-passed t) (rw (← n-is, ← s-is) a) e
+    left-told t (left.found {g = g} a e) = of.found {g = g} (left-passed t) (rw (← n-is, ← s-is) a) e
 
 module _ (m : ℕ) (f : List ℕ) (r : ℕ) {n : ℕ} {o : Outcome} (o-is : o ≡ check-one m f) (n-is : n ≡ degree f) where
   pub split-refused : {x : Parts} → is-refused o ≡ true → x ≡ no-parts o → Splits m f r x
@@ -83,11 +78,11 @@ module _ (m : ℕ) (f : List ℕ) (r : ℕ) {n : ℕ} {o : Outcome} (o-is : o �
     unfolding check-split
     split-misfit t q e = of.refused (fit-refused o-is fine (alike ∙ t)) (e ∙ ap no-parts q)
 
-    pub split-passed : b ≡ true → check-split m f r ≡ Answered
+    split-passed : b ≡ true → check-split m f r ≡ Answered
     unfolding check-split
     split-passed t = fit-passed o-is fine (alike ∙ t)
 
-    pub split-told : (v : Verdict) (g h : List ℕ) {x : Parts} → b ≡ true → Halved m f r (n / r) v g h → x ≡ told v g h → Splits m f r x
-    split-told verdict.Pair g h t a e = of.found {g = g} {h = h} (split-passed t) (a .0) (rw (← n-is) (a .1)) e
-    split-told verdict.NoPair g h t a e = of.none (split-passed t) (a .0) (rw (← n-is) (a .1)) e
-    split-told verdict.Shared g h t a e = of.shared (split-passed t) a e
+    pub split-told : {x : Parts} → b ≡ true → SplitAnswer m f r (n / r) x → Splits m f r x
+    split-told t (of.shared a e) = of.shared (split-passed t) a e
+    split-told t (of.none a p e) = of.none (split-passed t) a (rw (← n-is) p) e
+    split-told t (of.found {g = g} {h = h} a p e) = of.found {g = g} {h = h} (split-passed t) a (rw (← n-is) p) e

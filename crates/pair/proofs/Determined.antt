@@ -19,7 +19,7 @@ use Rattle.algebra.specs.Polynomial.{after, degree, terms, limit, Same, Monic, 
 use Rattle.algebra.specs.Pair.{Normal, NormalPair}
 use Rattle.algebra.proofs.Polynomials.{same-sym, monic-same}
 use Rattle.algebra.proofs.Coefficients.{after-monic}
-use Rattle.algebra.proofs.Reduction.{reduced, reduced-reduced, reduced-same, degree-monic}
+use Rattle.algebra.proofs.Reduction.{reduced-reduced, reduced-same, degree-monic}
 use Rattle.algebra.proofs.Factors.{coprime-invertible}
 use Rattle.algebra.proofs.Pairs as P
 use Rattle.refusal.specs.declared.Refusal.{Refusal}
@@ -31,8 +31,8 @@ use Rattle.polynomial.specs.Answers.{nothing, no-parts}
 use Rattle.polynomial.specs.Degrees.{Degrees}
 use Rattle.polynomial.specs.declared.Answer.{Answer}
 use Rattle.polynomial.specs.declared.Parts.{Parts}
-use Rattle.polynomial.proofs.Acceptance.{accepted-one, one-accepted, accepted-two, two-accepted, accepted-as, degree-fits, pair-accepted}
-use Rattle.left.specs.Powers.{composition}
+use Rattle.polynomial.proofs.Acceptance.{accepted-one, one-accepted, accepted-two, two-accepted, accepted-above, degree-fits, pair-accepted}
+use Rattle.composition.specs.Composition.{composition}
 use Rattle.pair.specs.Pairing.{compose, check-left, LeftPartOf, check-split, Splits}
 use Rattle.pair.specs.Pairing as of
 use Rattle.pair.proofs.Fitting.{fits-degrees, degrees-fit}
@@ -81,9 +81,9 @@ module _ {m : ℕ} {f h : List ℕ} (lf : length f ≡ terms) (lh : length h ≡
       same : g ≡ g′
       same =
           let (a, b, d) = left-accepted e in
-          let (rh, mh, two, l1, one, l2) = accepted-as refl b in
-          P.left-equal (omega arith) (omega arith) (l .reduced) (l′ .reduced)
-          (record { left = l .monic; right = mh; whole = l .whole }) (record { left = l′ .monic; right = mh; whole = l′ .whole })
+          let one = accepted-above b in
+          P.left-equal (omega arith) (omega (arith, b .two)) (l .reduced) (l′ .reduced)
+          (record { left = l .monic; right = b .monic; whole = l .whole }) (record { left = l′ .monic; right = b .monic; whole = l′ .whole })
 
 module _ {m : ℕ} {f : List ℕ} {r : ℕ} (lf : length f ≡ terms) where
   -- what passes the checks of a split
@@ -116,30 +116,30 @@ module _ {m : ℕ} {f : List ℕ} {r : ℕ} (lf : length f ≡ terms) where
       same : (g ≡ g′) × (h ≡ h′)
       same =
           let (a, w) = split-accepted e in
-          let (rf, mf, two, l1, one, l2) = accepted-as refl a in
+          let one = accepted-above a in
           P.pair-unique (omega arith) (omega (arith, w .two-left)) (omega (arith, w .two-right)) (coprime-invertible m (omega arith) c) n l
 
 -- composing and splitting
 module _ {m : ℕ} {g h : List ℕ} (ag : Accepted m g) (ah : Accepted m h) (fit : degree g * degree h ≤ limit) where
   one : 1 < m
-  one = let (rg, mg, two, l1, m1, l2) = accepted-as refl ag in m1
+  one = accepted-above ag
 
   pos : 0 < m
   pos = let l = one in omega arith
 
   whole : Monic m (degree g * degree h) (after g h)
-  whole = let (rh, mh, two, l1, m1, l2) = accepted-as refl ah in after-monic m pos (omega arith) (ag .monic) mh
+  whole = after-monic m pos (omega (arith, ah .two)) (ag .monic) (ah .monic)
 
   pub composed-is : compose m g h ≡ record { outcome = Answered; polynomial = composition m g h }
   unfolding compose
   composed-is = rw (pair-accepted ag ah fit)
 
   pub composed-reduced : Reduced m (composition m g h)
-  unfolding composition reduced
+  unfolding composition
   composed-reduced = reduced-reduced m pos (after g h)
 
   pub composed-same : Same m (after g h) (composition m g h)
-  unfolding composition reduced terms
+  unfolding composition terms
   composed-same = reduced-same m pos (after g h) (λ i l. whole .above i (omega arith))
 
   composed-monic : Monic m (degree g * degree h) (composition m g h)
@@ -150,8 +150,7 @@ module _ {m : ℕ} {g h : List ℕ} (ag : Accepted m g) (ah : Accepted m h) (fit
 
   composed-accepted : Accepted m (composition m g h)
   composed-accepted = record {
-    low = ag .low;
-    high = ag .high;
+    modulus = ag .modulus;
     reduced = composed-reduced;
     monic = rw composed-degree composed-monic;
     two = rw composed-degree (omega (arith, ag .two, ah .two, N.mul-le-mul (ag .two) (ah .two)));

@@ -1,20 +1,21 @@
 -- The operations on pairs, as 01 has them.
 --
 --   fits n d                 d divides n, and d and n/d are both at least 2
+--   beside o m g h           g(h) beside the outcome o, and zeros beside a refusal
 --   compose m g h            the answer to: compose g and h
 --   check-left m f h         1; 2, 3, 4 for f and h; 6
 --   LeftPartOf m f h x       x answers: the left part of f for the given h
 --   check-split m f r        1, 2, 3, 4; 6
 --   Splits m f r x           x answers: f split at the left degree r
---   told v g h               the answer to a split, from what the search found
---   Halved m f r s v g h     what the search at r and s finds: the pair, that there is none, or that r and m share a factor
+--   SplitAsked m n r s f t   what a split at r and s is given: f of degree n = r·s, and the binomials
+--   SplitAnswer m f r s x    what it answers: the pair, that there is none, or that r and m share a factor
 use mathlib.Core.Path.{_≡_}
 use mathlib.Core.Bool.{Bool, not, _&&_}
 use mathlib.Core.List.{List}
 use Prim.Native.Nat.{ℕ, _/_, _%_}
 use lib.Dec.{leb, eqb}
-use Rattle.algebra.specs.Number.{Coprime}
-use Rattle.algebra.specs.Polynomial.{after, degree, Same, Monic, Reduced}
+use Rattle.algebra.specs.Number.{Coprime, Modulus}
+use Rattle.algebra.specs.Polynomial.{degree, Held}
 use Rattle.algebra.specs.Pair.{NormalPair}
 use Rattle.algebra.specs.Pair as pair
 use Rattle.refusal.specs.Refusal.{refusal, refuse, _then_}
@@ -27,23 +28,23 @@ use Rattle.polynomial.specs.Checks.{check-one, check-two, check-pair}
 use Rattle.polynomial.specs.Answers.{nothing, no-parts}
 use Rattle.polynomial.specs.declared.Answer.{Answer}
 use Rattle.polynomial.specs.declared.Parts.{Parts}
-use Rattle.left.specs.Powers.{composition}
+use Rattle.polynomial.specs.Degrees.{Degrees}
+use Rattle.binomial.specs.Triangle.{rows, triangle}
+use Rattle.composition.specs.Composition.{composition}
 use Rattle.left.specs.Left.{LeftPart, NoLeft}
-use Rattle.pair.specs.declared.Verdict.{Verdict}
-use Rattle.pair.specs.declared.Verdict.the-variants as verdict
 
 -- a degree that a part of a polynomial of degree n can have
 unfoldable pub fits : ℕ → ℕ → Bool
 fits n d = leb 2 d && eqb (n % d) 0 && leb 2 (n / d)
 
--- 1; 2, 3, 4 for g and h; 10; else g(h) modulo m
-abbrev pub composed : Outcome → ℕ → List ℕ → List ℕ → Answer
-composed Answered m g h = record { outcome = Answered; polynomial = composition m g h }
-composed (Refused r) m g h = nothing (Refused r)
+-- what is returned beside an outcome
+abbrev pub beside : Outcome → ℕ → List ℕ → List ℕ → Answer
+beside Answered m g h = record { outcome = Answered; polynomial = composition m g h }
+beside (Refused r) m g h = nothing (Refused r)
 
--- the answer to: compose g and h
+-- 1; 2, 3, 4 for g and h; 10; else g(h) modulo m
 unfoldable pub compose : ℕ → List ℕ → List ℕ → Answer
-compose m g h = composed (check-pair m g h) m g h
+compose m g h = beside (check-pair m g h) m g h
 
 -- No. 6 of a given h
 unfoldable pub check-left : ℕ → List ℕ → List ℕ → Outcome
@@ -69,14 +70,15 @@ pub data Splits (m : ℕ) (f : List ℕ) (r : ℕ) (x : Parts) : Type 0 where
   found : {g h : List ℕ} → check-split m f r ≡ Answered → Coprime r m → NormalPair m f r (degree f / r) g h
       → x ≡ record { outcome = Answered; left = g; right = h } → Splits m f r x
 
--- what the search at a left degree r and a right degree s finds
-abbrev pub Halved : ℕ → List ℕ → ℕ → ℕ → Verdict → List ℕ → List ℕ → Type 0
-Halved m f r s verdict.Pair g h = Coprime r m × NormalPair m f r s g h
-Halved m f r s verdict.NoPair g h = Coprime r m × pair.NoPair m f r s
-Halved m f r s verdict.Shared g h = Coprime r m → ⊥
+-- what a split is given once its checks are passed
+pub record SplitAsked (m n r s : ℕ) (f table : List ℕ) : Type 0 where
+  pub modulus : Modulus m
+  pub degrees : Degrees n r s
+  pub whole : Held m n f
+  pub binomials : table ≡ triangle rows
 
--- the answer to a split, from what the search found
-abbrev pub told : Verdict → List ℕ → List ℕ → Parts
-told verdict.Pair g h = record { outcome = Answered; left = g; right = h }
-told verdict.NoPair g h = no-parts (refusal Neither NoPair)
-told verdict.Shared g h = no-parts (refusal Neither Factor)
+-- and what it answers
+pub data SplitAnswer (m : ℕ) (f : List ℕ) (r s : ℕ) (x : Parts) : Type 0 where
+  shared : (Coprime r m → ⊥) → x ≡ no-parts (refusal Neither Factor) → SplitAnswer m f r s x
+  none : Coprime r m → pair.NoPair m f r s → x ≡ no-parts (refusal Neither NoPair) → SplitAnswer m f r s x
+  found : {g h : List ℕ} → Coprime r m → NormalPair m f r s g h → x ≡ record { outcome = Answered; left = g; right = h } → SplitAnswer m f r s x

@@ -1,15 +1,12 @@
 // The operations on pairs: compose, left part, split.
 ghost use mathlib.Core.Path.{_≡_};
-ghost use Prim.Native.Nat.{ℕ, _*_, _%_, _^_, _≤_, _<_};
-ghost use Rattle.algebra.specs.Polynomial.{Monic, Reduced};
-ghost use Rattle.binomial.specs.Triangle.{rows, triangle};
-ghost use Rattle.polynomial.specs.Degrees.{Degrees};
-ghost use Rattle.pair.specs.Pairing.{fits as fits-of, compose as compose-of, LeftPartOf, Splits, Halved, told as told-of};
+ghost use Prim.Native.Nat.{_*_, _%_, _<_};
+ghost use Rattle.polynomial.specs.Moduli.{modulus};
+ghost use Rattle.pair.specs.Pairing.{fits as fits-of, compose as compose-of, LeftPartOf, Splits, SplitAsked, SplitAnswer};
 use binomial::ENTRIES;
 use polynomial::Answer;
 use polynomial::Coefficients;
 use polynomial::Parts;
-use polynomial::TERMS;
 use refusal::Concerns;
 use refusal::Outcome;
 use refusal::Reason;
@@ -30,8 +27,9 @@ fn fits(n: usize, d: usize) -> bool
 
 // The operation: g(h).
 pub fn compose(m: u32, g: Coefficients, h: Coefficients) -> Answer
-    ensures { λ x. ⌜ x ≡ compose-of m g h ⌝ }
+    ensures { λ x. ⌜ x ≡ compose-of (modulus m) g h ⌝ }
 {
+    let m = polynomial::modulus(m);
     let r = polynomial::degree(&g);
     let s = polynomial::degree(&h);
     let o = polynomial::check_pair(m, &g, r, &h, s);
@@ -40,14 +38,15 @@ pub fn compose(m: u32, g: Coefficients, h: Coefficients) -> Answer
     }
     Answer {
         outcome: Outcome::Answered,
-        polynomial: left::compose(g, h, r, s, m as u64),
+        polynomial: composition::compose(&g, &h, r, s, m),
     }
 }
 
 // The operation: the left part of f for a given h, whether h(0) is zero or not.
 pub fn left_part(m: u32, f: Coefficients, h: Coefficients) -> Answer
-    ensures { λ x. ⌜ LeftPartOf m f h x ⌝ }
+    ensures { λ x. ⌜ LeftPartOf (modulus m) f h x ⌝ }
 {
+    let m = polynomial::modulus(m);
     let n = polynomial::degree(&f);
     let s = polynomial::degree(&h);
     let o = polynomial::check_two(m, &f, n, &h, s);
@@ -57,32 +56,10 @@ pub fn left_part(m: u32, f: Coefficients, h: Coefficients) -> Answer
     if !fits(n, s) {
         return polynomial::nothing(refusal::refused(Concerns::Neither, Reason::Fit));
     }
-    let a = left::left_part(f, h, n, n / s, s, m as u64);
-    if !a.found {
-        return polynomial::nothing(refusal::refused(Concerns::Neither, Reason::NoPair));
-    }
-    let g = a.left;
-    Answer {
-        outcome: Outcome::Answered,
-        polynomial: g,
-    }
+    left::left_part(f, h, n, n / s, s, m)
 }
 
-// What the search at one left degree finds.
-pub enum Verdict {
-    Pair,
-    NoPair,
-    Shared,
-}
-
-// The verdict, and the pair where there is one.
-pub struct Halves {
-    pub verdict: Verdict,
-    pub left: Coefficients,
-    pub right: Coefficients,
-}
-
-// The forced pair by the inverse u of r, and the last comparison.
+// The forced pair by the inverse u of r, if it passes the last comparison.
 fn forced(
     f: Coefficients,
     n: usize,
@@ -91,29 +68,25 @@ fn forced(
     u: u32,
     table: &[u64; ENTRIES],
     m: u64,
-) -> Halves
-    requires { ⌜ Degrees n r s × Reduced m f × Monic m n f × (now table ≡ triangle rows) ⌝ }
-    requires { ⌜ (u < m) × (r * u % m ≡ 1) × (1 < m) × (m ≤ 2 ^ 32) ⌝ }
-    ensures { λ a. ⌜ Halved m f r s (a .verdict) (a .left) (a .right) ⌝ }
+) -> Parts
+    requires { ⌜ SplitAsked m n r s f (now table) × (u < m) × (r * u % m ≡ 1) ⌝ }
+    ensures { λ x. ⌜ SplitAnswer m f r s x ⌝ }
 {
     let h = right::right_part(&f, n, r, s, u, table, m);
     let a = left::left_part(f, h, n, r, s, m);
-    let g = a.left;
-    if a.found {
-        return Halves {
-            verdict: Verdict::Pair,
-            left: g,
-            right: h,
-        };
+    let compared = a.outcome;
+    if refusal::refuses(compared) {
+        return polynomial::no_parts(compared);
     }
-    Halves {
-        verdict: Verdict::NoPair,
+    let g = a.polynomial;
+    Parts {
+        outcome: compared,
         left: g,
         right: h,
     }
 }
 
-// The search at the left degree r and the right degree s, with the table of binomials lent: the chain asks it at every s.
+// The split at the left degree r and the right degree s, with the table of binomials lent: the chain asks it at every s.
 pub fn split_at(
     f: Coefficients,
     n: usize,
@@ -121,39 +94,13 @@ pub fn split_at(
     s: usize,
     table: &[u64; ENTRIES],
     m: u64,
-) -> Halves
-    requires { ⌜ Degrees n r s × Reduced m f × Monic m n f × (now table ≡ triangle rows) ⌝ }
-    requires { ⌜ (1 < m) × (m ≤ 2 ^ 32) ⌝ }
-    ensures { λ a. ⌜ Halved m f r s (a .verdict) (a .left) (a .right) ⌝ }
+) -> Parts
+    requires { ⌜ SplitAsked m n r s f (now table) ⌝ }
+    ensures { λ x. ⌜ SplitAnswer m f r s x ⌝ }
 {
     match residue::invert(r as u64, m) {
         Inverse::Of(u) => forced(f, n, r, s, u, table, m),
-        Inverse::Shared(_) => Halves {
-            verdict: Verdict::Shared,
-            left: f,
-            right: f,
-        },
-    }
-}
-
-// The answer to a split from what the search found.
-fn told(a: Halves) -> Parts
-    ensures { λ x. ⌜ x ≡ told-of (a .verdict) (a .left) (a .right) ⌝ }
-{
-    let v = a.verdict;
-    let left = a.left;
-    let right = a.right;
-    match v {
-        Verdict::Pair => Parts {
-            outcome: Outcome::Answered,
-            left,
-            right,
-        },
-        Verdict::NoPair => polynomial::no_parts(refusal::refused(
-            Concerns::Neither,
-            Reason::NoPair,
-        )),
-        Verdict::Shared => polynomial::no_parts(refusal::refused(
+        Inverse::Shared(_) => polynomial::no_parts(refusal::refused(
             Concerns::Neither,
             Reason::Factor,
         )),
@@ -162,8 +109,9 @@ fn told(a: Halves) -> Parts
 
 // The operation: f split at the left degree r.
 pub fn split(m: u32, f: Coefficients, r: usize) -> Parts
-    ensures { λ x. ⌜ Splits m f r x ⌝ }
+    ensures { λ x. ⌜ Splits (modulus m) f r x ⌝ }
 {
+    let m = polynomial::modulus(m);
     let n = polynomial::degree(&f);
     let o = polynomial::check_one(m, &f, n);
     if refusal::refuses(o) {
@@ -173,5 +121,5 @@ pub fn split(m: u32, f: Coefficients, r: usize) -> Parts
         return polynomial::no_parts(refusal::refused(Concerns::Neither, Reason::Fit));
     }
     let table = binomial::table();
-    told(split_at(f, n, r, n / r, &table, m as u64))
+    split_at(f, n, r, n / r, &table, m)
 }

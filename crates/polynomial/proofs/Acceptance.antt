@@ -6,24 +6,26 @@
 --   accepted-two, two-accepted  the same for two
 --   degrees-multiply, above-limit, within-limit     the composed degree, and No. 10
 --   accepted-pair, pair-accepted     the checks of a pair that is composed
---   accepted-as                 what a leaf asks of an accepted polynomial
+--   accepted-modulus            a modulus that passes No. 1 is one that the leaves take
+--   accepted-above              so the modulus of an accepted polynomial is above 1
+--   accepted-as                 an accepted polynomial as a leaf asks for it
 --   accepted-changed            a changed polynomial is accepted as it was, and has its degree
 --   degree-fits                 an accepted polynomial is within the desk's limit
 use mathlib.Core.Path.{_≡_, refl, sym, _∙_}
 use mathlib.Core.Bool.{Bool, true, false, _||_}
 use mathlib.Core.List.{List}
-use Prim.Native.Nat.{ℕ, _*_, _^_, _≤_, _<_}
+use Prim.Native.Nat.{ℕ, _*_, _≤_, _<_}
 use native.Mathlib.Nat.{mod-eq-of-lt, mul-le-mul}
 use native.Mathlib.Omega.{arith}
 use lib.Dec.{ltb}
 use lib.ListN.{length}
 use borrow.Author.Tests.{ltb-false, eqb-true, not-false, lt-ltb, le-ltb, eq-eqb}
-use Rattle.algebra.specs.Number.{Coprime}
+use Rattle.algebra.specs.Number.{Coprime, Modulus}
 use Rattle.algebra.specs.Change.{Changed}
 use Rattle.algebra.proofs.Reduction.{degree-monic}
 use Rattle.algebra.proofs.Factors.{coprime-invertible}
 use Rattle.algebra.proofs.Changes.{changed-monic}
-use Rattle.algebra.specs.Polynomial.{coef, limit, terms, degree, Monic, Reduced}
+use Rattle.algebra.specs.Polynomial.{coef, limit, terms, degree, Monic, Reduced, Held}
 use Rattle.refusal.specs.Refusal.{_then_, is-refused, refusal, refuse}
 use Rattle.refusal.specs.declared.Concerns.{Concerns}
 use Rattle.refusal.specs.declared.Concerns.the-variants.{Neither, First, Second}
@@ -31,7 +33,8 @@ use Rattle.refusal.specs.declared.Reason.the-variants.{Limit}
 use Rattle.refusal.specs.declared.Outcome.{Outcome}
 use Rattle.refusal.specs.declared.Outcome.the-variants.{Answered}
 use Rattle.refusal.proofs.Outcomes.{then-refused, then-both, then-assoc, refuse-answered}
-use Rattle.polynomial.specs.Checks.{smallest, largest, offending, check-modulus, check-coefficients, check-degree, check-leading, check-polynomial, check-one, check-two, check-pair, Accepted}
+use Rattle.polynomial.specs.Moduli.{smallest, largest, check-modulus}
+use Rattle.polynomial.specs.Checks.{offending, check-coefficients, check-degree, check-leading, check-polynomial, check-one, check-two, check-pair, Accepted}
 use Rattle.polynomial.proofs.Lowest.{offending-none, none-offending}
 use Rattle.algebra.proofs.Highest.{degree-below, degree-above}
 
@@ -49,35 +52,37 @@ neither : (s t : Bool) → (s || t) ≡ false → (s ≡ false) × (t ≡ false)
 neither true t h = (h, cc)
 neither false t h = (refl, h)
 
-accepted-modulus : (m : ℕ) → check-modulus m ≡ Answered → (smallest ≤ m) × (m ≤ largest)
-unfolding check-modulus
-accepted-modulus m h =
+-- a modulus that passes No. 1 is one that the leaves take
+pub accepted-modulus : {m : ℕ} → check-modulus m ≡ Answered → Modulus m
+unfolding check-modulus smallest largest
+accepted-modulus {m} h =
     let (low, high) = neither (ltb m smallest) (ltb largest m) (refuse-answered _ _ _ h) in
-    (ltb-false _ _ low, ltb-false _ _ high)
+    let l : smallest ≤ m = ltb-false _ _ low in
+    let k : m ≤ largest = ltb-false _ _ high in
+    record { above-one = omega arith; fits = omega arith }
 
-modulus-accepted : {m : ℕ} → smallest ≤ m → m ≤ largest → check-modulus m ≡ Answered
-unfolding check-modulus
-modulus-accepted l h = simp (le-ltb _ _ l, le-ltb _ _ h)
+-- so the modulus of an accepted polynomial is above 1
+pub accepted-above : {m : ℕ} {f : List ℕ} → Accepted m f → 1 < m
+accepted-above a = accepted-modulus (a .modulus) .above-one
 
 accepted-polynomial : (c : Concerns) {m : ℕ} {f : List ℕ} → length f ≡ terms → check-modulus m ≡ Answered → check-polynomial c m f ≡ Answered → Accepted m f
 unfolding check-polynomial check-coefficients check-degree check-leading
 accepted-polynomial c {m} {f} long o h =
-    let (low, high) = accepted-modulus m o in
     let (two, three-four) = then-both (check-coefficients c m f) _ h in
     let (three, four) = then-both (check-degree c f) (check-leading c f) three-four in
     let passed = offending-none m f (ltb-false _ _ (refuse-answered _ _ _ two)) in
     let lead : coef f (degree f) ≡ 1 = eqb-true _ _ (not-false _ (refuse-answered _ _ _ four)) in
     record {
-      low = low;
-      high = high;
+      modulus = o;
       reduced = record { long = long; below = λ i l. passed .below i (omega arith) };
       monic = record { top = rw lead; above = λ i l. rw (degree-above f i l) };
       two = ltb-false _ _ (refuse-answered _ _ _ three);
     }
 
 polynomial-accepted : (c : Concerns) {m : ℕ} {f : List ℕ} → Accepted m f → check-polynomial c m f ≡ Answered
-unfolding smallest terms check-polynomial check-coefficients check-degree check-leading
+unfolding terms check-polynomial check-coefficients check-degree check-leading
 polynomial-accepted c {m} {f} a =
+    let w = accepted-modulus (a .modulus) in
     let none : offending m f ≡ length f = none-offending m f (record { below = λ i l. a .reduced .below i (omega arith) }) in
     let small : coef f (degree f) < m = a .reduced .below (degree f) (omega (arith, degree-below f (omega arith))) in
     let lead : coef f (degree f) ≡ 1 = sym (mod-eq-of-lt small) ∙ a .monic .top ∙ mod-eq-of-lt (omega arith) in
@@ -93,7 +98,7 @@ accepted-one {m} {f} long h =
 -- what is accepted passes them
 pub one-accepted : {m : ℕ} {f : List ℕ} → Accepted m f → check-one m f ≡ Answered
 unfolding check-one
-one-accepted a = simp (modulus-accepted (a .low) (a .high), polynomial-accepted First a)
+one-accepted a = simp (a .modulus, polynomial-accepted First a)
 
 -- what passes the checks of two polynomials is accepted
 pub accepted-two : {m : ℕ} {f h : List ℕ} → length f ≡ terms → length h ≡ terms → check-two m f h ≡ Answered → Accepted m f × Accepted m h
@@ -139,20 +144,17 @@ pub pair-accepted : {m : ℕ} {g h : List ℕ} → Accepted m g → Accepted m h
 unfolding check-pair
 pair-accepted {m} {g} {h} a b l = rw (two-accepted a b) (sym (within-limit g h refl refl l))
 
--- an accepted polynomial, by its degree as the code has it, and its modulus within a word
-pub accepted-as : {m n : ℕ} {f : List ℕ} → n ≡ degree f → Accepted m f → Reduced m f × Monic m n f × (2 ≤ n) × (n ≤ limit) × (1 < m) × (m ≤ 2 ^ 32)
-unfolding smallest largest
-accepted-as {m} {n} {f} e a = (a .reduced, rw e (a .monic), rw e (a .two), rw e (degree-fits a), omega (arith, a .low), omega (arith, a .high))
+-- an accepted polynomial, by its degree as the code has it
+pub accepted-as : {m n : ℕ} {f : List ℕ} → n ≡ degree f → Accepted m f → Modulus m × Held m n f × (2 ≤ n)
+accepted-as {m} {n} {f} e a =
+    (accepted-modulus (a .modulus), record { reduced = a .reduced; monic = rw e (a .monic); within = rw e (degree-fits a) }, rw e (a .two))
 
 -- f changed, and reduced, is accepted as f is, and has its degree
 pub accepted-changed : {m a b : ℕ} {f f′ : List ℕ} → Accepted m f → Reduced m f′ → Coprime a m → Changed m (degree f) a b f f′ → Accepted m f′ × (degree f′ ≡ degree f)
-accepted-changed {m} {a} {b} {f} {f′} acc red unit changed = (record { low = acc .low; high = acc .high; reduced = red; monic = rw same monic; two = rw same (acc .two) }, same)
+accepted-changed {m} {a} {b} {f} {f′} acc red unit changed = (record { modulus = acc .modulus; reduced = red; monic = rw same monic; two = rw same (acc .two) }, same)
   where
-    above : 1 < m
-    above = let (rf, mf, two, l, o, w) = accepted-as refl acc in o
-
     monic : Monic m (degree f) f′
-    monic = let o = above in changed-monic (omega arith) (omega (arith, acc .two)) (coprime-invertible m (omega arith) unit) (acc .monic) changed
+    monic = let w = accepted-modulus (acc .modulus) in changed-monic (omega arith) (omega (arith, acc .two)) (coprime-invertible m (omega arith) unit) (acc .monic) changed
 
     same : degree f′ ≡ degree f
-    same = let o = above in degree-monic (omega arith) red monic
+    same = let w = accepted-modulus (acc .modulus) in degree-monic (omega arith) red monic

@@ -3,15 +3,22 @@
 --   Filled n f r i            r has n entries, and the first i are f's
 --   filled-none, filled-more  at the start, and after one more store
 --   filled-all                at the end
-use mathlib.Core.Path.{_≡_, sym, _∙_, subst}
+--   filled-here               a place that holds its value already needs no store
+--   zeros                     a list of zeros holds 0 at every place, and past its end
+--   Begun n f k l             l has n entries, the first k are f's, and the others still 0
+--   begun-none, begun-more    at the start, and after one more store
+--   begun-all                 where f has nothing from k on, l is f's table already
+use mathlib.Core.Path.{_≡_, refl, sym, _∙_, subst}
 use mathlib.Core.Logic.{⊎-elim}
 use mathlib.Core.List.{List}
-use Prim.Native.Nat.{ℕ, _+_, _≤_, _<_}
+use Prim.Native.Nat.{ℕ, zero, suc, _+_, _≤_, _<_}
 use native.Mathlib.Nat.{not-suc-le-zero, eq-or-lt-of-le}
 use native.Mathlib.Omega.{arith}
-use lib.ListN.{length, getD, set, length-set}
+use native.Mathlib.Decide.{decLt}
+use lib.ListN.{length, getD, set, length-set, replicate, length-replicate}
 use lib.Seq.{ext-getD, getD-set-same, getD-set-other}
 use Rattle.algebra.specs.Number.{table}
+use Rattle.algebra.specs.Polynomial.{coef}
 use Rattle.algebra.proofs.Numbers.{table-length, table-below}
 
 -- r has n entries, and the first i are f's
@@ -40,3 +47,39 @@ pub filled-all : {n : ℕ} {f : ℕ → ℕ} {r : List ℕ} {i : ℕ} → n ≤ 
 filled-all {n} {f} {r} {i} h c =
     ext-getD 0 r (table n f) (c .long ∙ sym (table-length n f))
     (λ k l. let e = c .long in c .is k (omega arith) ∙ sym (table-below n f k (omega arith)))
+
+-- nothing is stored at i, where the value stands already
+pub filled-here : {n : ℕ} {f : ℕ → ℕ} {r : List ℕ} {i : ℕ} → getD r i 0 ≡ f i → Filled n f r i → Filled n f r (i + 1)
+filled-here {f = f} {r = r} {i = i} h c =
+    record {
+      long = c .long;
+      is = λ k l. ⊎-elim (λ (q : k ≡ i). rw q h) (λ (q : k < i). c .is k q) (eq-or-lt-of-le (omega arith));
+    }
+
+-- a list of zeros holds 0 everywhere
+pub zeros : (n k : ℕ) → coef (replicate n 0) k ≡ 0
+zeros zero k = refl
+zeros (suc n) zero = refl
+zeros (suc n) (suc k) = zeros n k
+
+-- the first k entries are f's, and the others still 0
+pub record Begun (n : ℕ) (f : ℕ → ℕ) (k : ℕ) (l : List ℕ) : Type 0 where
+  pub filled : Filled n f l k
+  pub rest : (j : ℕ) → k ≤ j → getD l j 0 ≡ 0
+
+-- before the first store
+pub begun-none : {n : ℕ} {f : ℕ → ℕ} → Begun n f 0 (replicate n 0)
+begun-none {n} = record { filled = filled-none (length-replicate n 0); rest = λ j l. zeros n j }
+
+-- f k is stored at k
+pub begun-more : {n : ℕ} {f : ℕ → ℕ} {k x : ℕ} {l : List ℕ} → k < n → x ≡ f k → Begun n f k l → Begun n f (k + 1) (set l k x)
+begun-more {k = k} {x} {l} h e c =
+    record { filled = filled-more h e (c .filled); rest = λ j b. getD-set-other l k j x 0 (omega arith) ∙ c .rest j (omega arith) }
+
+-- f has nothing where nothing was stored
+pub begun-all : {n : ℕ} {f : ℕ → ℕ} {k : ℕ} {l : List ℕ} → ((j : ℕ) → k ≤ j → f j ≡ 0) → Begun n f k l → l ≡ table n f
+begun-all {n} {f} {k} {l} z c = filled-all {i = n} (omega arith) (record { long = c .filled .long; is = λ j b. go j (decLt j k) })
+  where
+    go : (j : ℕ) → Dec (j < k) → getD l j 0 ≡ f j
+    go j (yes h) = c .filled .is j h
+    go j (no h) = c .rest j (omega arith) ∙ sym (z j (omega arith))

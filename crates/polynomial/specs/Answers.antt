@@ -2,7 +2,6 @@
 --
 --   nothing o        the outcome o beside a polynomial of zeros
 --   no-parts o       the outcome o beside two parts of zeros
-use Prim.Native.Nat.{ℕ}
 use lib.ListN.{replicate}
 use Rattle.algebra.specs.Polynomial.{terms}
 use Rattle.refusal.specs.declared.Outcome.{Outcome}

@@ -1,8 +1,6 @@
--- The checks 1 to 4 of 01, in its order.
+-- The checks 1 to 4 of 01, in its order, over the number m that the modulus word means (specs/Moduli has No. 1).
 --
---   smallest, largest            the moduli that the desk takes
 --   offending m f                the lowest power of x whose coefficient is m or more; the length of f if there is none
---   check-modulus m              No. 1
 --   check-coefficients c m f     No. 2, of the polynomial c
 --   check-degree c f             No. 3
 --   check-leading c f            No. 4
@@ -10,30 +8,22 @@
 --   check-one m f                1, then 2, 3, 4 for f
 --   check-two m f h              1, then 2, 3, 4 for f, the first, then for h, the second
 --   check-pair m g h             the same for g and h, then 10
+--   Measured n f                 f has all its places, and n is its degree
 --   Accepted m f                 what passes them: a modulus of the desk, and f reduced and monic, of degree 2 or more
-use mathlib.Core.Bool.{true, false, not, _||_}
+use mathlib.Core.Bool.{true, false, not}
 use mathlib.Core.List.{List, [], _∷_}
+use mathlib.Core.Path.{_≡_}
 use Prim.Native.Nat.{ℕ, suc, _*_, _≤_}
 use lib.Dec.{ltb, leb, eqb}
 use lib.ListN.{length}
-use Rattle.algebra.specs.Polynomial.{coef, degree, limit, Monic, Reduced}
+use Rattle.algebra.specs.Polynomial.{coef, degree, limit, terms, Monic, Reduced}
 use Rattle.refusal.specs.Refusal.{refuse, _then_}
 use Rattle.refusal.specs.declared.Concerns.{Concerns}
 use Rattle.refusal.specs.declared.Concerns.the-variants.{Neither, First, Second}
-use Rattle.refusal.specs.declared.Reason.the-variants.{Modulus, Coefficient, Degree, Leading, Limit}
+use Rattle.refusal.specs.declared.Reason.the-variants.{Coefficient, Degree, Leading, Limit}
 use Rattle.refusal.specs.declared.Outcome.{Outcome}
-
--- the smallest modulus
-unfoldable pub smallest : ℕ
-smallest = 2
-
--- the largest modulus
-unfoldable pub largest : ℕ
-largest = 2147483647
-
--- m is below the smallest modulus or above the largest
-unfoldable pub check-modulus : ℕ → Outcome
-check-modulus m = refuse (ltb m smallest || ltb largest m) Neither Modulus
+use Rattle.refusal.specs.declared.Outcome.the-variants.{Answered}
+use Rattle.polynomial.specs.Moduli.{check-modulus}
 
 -- the lowest offending power of x
 unfoldable pub offending : ℕ → List ℕ → ℕ
@@ -68,10 +58,14 @@ check-two m f h = check-modulus m then check-polynomial First m f then check-pol
 unfoldable pub check-pair : ℕ → List ℕ → List ℕ → Outcome
 check-pair m g h = check-two m g h then refuse (ltb limit (degree g * degree h)) Neither Limit
 
+-- what the checks are given
+pub record Measured (n : ℕ) (f : List ℕ) : Type 0 where
+  pub long : length f ≡ terms
+  pub is : n ≡ degree f
+
 -- what the checks let pass
 pub record Accepted (m : ℕ) (f : List ℕ) : Type 0 where
-  pub low : smallest ≤ m
-  pub high : m ≤ largest
+  pub modulus : check-modulus m ≡ Answered
   pub reduced : Reduced m f
   pub monic : Monic m (degree f) f
   pub two : 2 ≤ degree f

@@ -1,9 +1,9 @@
 // A polynomial of the desk: its limit, its degree, and the checks 1 to 4 of 01 in their order.
 ghost use mathlib.Core.Path.{_≡_};
 ghost use Prim.Native.Nat.{min};
-ghost use lib.ListN.{length};
-ghost use Rattle.algebra.specs.Polynomial.{terms, degree as degree-of};
-ghost use Rattle.polynomial.specs.Checks.{offending as offending-power, check-modulus, check-polynomial, check-one, check-two, check-pair};
+ghost use Rattle.algebra.specs.Polynomial.{degree as degree-of};
+ghost use Rattle.polynomial.specs.Moduli.{modulus as modulus-of, check-modulus};
+ghost use Rattle.polynomial.specs.Checks.{offending as offending-power, check-polynomial, check-one, check-two, check-pair, Measured};
 ghost use Rattle.polynomial.specs.Answers.{nothing as nothing-of, no-parts as no-parts-of};
 use refusal::Concerns;
 use refusal::Outcome;
@@ -16,9 +16,9 @@ pub const LIMIT: usize = 126;
 pub const TERMS: usize = LIMIT + 1;
 
 // The moduli that the desk takes.
-const SMALLEST: u32 = 2;
+const SMALLEST: u64 = 2;
 
-const LARGEST: u32 = 2147483647;
+const LARGEST: u64 = 2147483647;
 
 // The coefficients, that of x^0 first.
 pub type Coefficients = [u32; TERMS];
@@ -78,13 +78,20 @@ pub fn degree(f: &[u32]) -> usize
     0
 }
 
+// The number that a modulus word means. The operations take the word, and all below them this number.
+pub fn modulus(word: u32) -> u64
+    ensures { λ r. ⌜ r ≡ modulus-of word ⌝ }
+{
+    word as u64
+}
+
 // The lowest power whose coefficient is m or more, and the length of f if there is none.
-fn offending(m: u32, f: &[u32]) -> usize
+fn offending(m: u64, f: &[u32]) -> usize
     ensures { λ r. ⌜ r ≡ offending-power m (now (f .entry)) ⌝ }
 {
     let mut i = 0;
     while i < f.len() {
-        if m <= f[i] {
+        if m <= f[i] as u64 {
             return i;
         }
         i += 1;
@@ -93,7 +100,7 @@ fn offending(m: u32, f: &[u32]) -> usize
 }
 
 // No. 1.
-pub fn check_modulus(m: u32) -> Outcome
+pub fn check_modulus(m: u64) -> Outcome
     ensures { λ r. ⌜ r ≡ check-modulus m ⌝ }
 {
     if m < SMALLEST {
@@ -106,8 +113,8 @@ pub fn check_modulus(m: u32) -> Outcome
 }
 
 // Nos. 2, 3 and 4 of a polynomial, whose degree the caller has found.
-pub fn check_polynomial(concerns: Concerns, m: u32, f: &[u32], degree: usize) -> Outcome
-    requires { ⌜ (length (now f) ≡ terms) × (degree ≡ degree-of (now f)) ⌝ }
+pub fn check_polynomial(concerns: Concerns, m: u64, f: &[u32], degree: usize) -> Outcome
+    requires { ⌜ Measured degree (now f) ⌝ }
     ensures { λ r. ⌜ r ≡ check-polynomial concerns m (now (f .entry)) ⌝ }
 {
     let i = offending(m, f);
@@ -124,8 +131,8 @@ pub fn check_polynomial(concerns: Concerns, m: u32, f: &[u32], degree: usize) ->
 }
 
 // The checks of an operation on one polynomial.
-pub fn check_one(m: u32, f: &[u32], degree: usize) -> Outcome
-    requires { ⌜ (length (now f) ≡ terms) × (degree ≡ degree-of (now f)) ⌝ }
+pub fn check_one(m: u64, f: &[u32], degree: usize) -> Outcome
+    requires { ⌜ Measured degree (now f) ⌝ }
     ensures { λ r. ⌜ r ≡ check-one m (now (f .entry)) ⌝ }
 {
     let o = check_modulus(m);
@@ -136,9 +143,8 @@ pub fn check_one(m: u32, f: &[u32], degree: usize) -> Outcome
 }
 
 // The checks of an operation on two polynomials, f the first and h the second.
-pub fn check_two(m: u32, f: &[u32], n: usize, h: &[u32], s: usize) -> Outcome
-    requires { ⌜ (length (now f) ≡ terms) × (n ≡ degree-of (now f)) ⌝ }
-    requires { ⌜ (length (now h) ≡ terms) × (s ≡ degree-of (now h)) ⌝ }
+pub fn check_two(m: u64, f: &[u32], n: usize, h: &[u32], s: usize) -> Outcome
+    requires { ⌜ Measured n (now f) × Measured s (now h) ⌝ }
     ensures { λ r. ⌜ r ≡ check-two m (now (f .entry)) (now (h .entry)) ⌝ }
 {
     let o = check_one(m, f, n);
@@ -149,9 +155,8 @@ pub fn check_two(m: u32, f: &[u32], n: usize, h: &[u32], s: usize) -> Outcome
 }
 
 // The checks of an operation that composes g, the first, and h, the second.
-pub fn check_pair(m: u32, g: &[u32], r: usize, h: &[u32], s: usize) -> Outcome
-    requires { ⌜ (length (now g) ≡ terms) × (r ≡ degree-of (now g)) ⌝ }
-    requires { ⌜ (length (now h) ≡ terms) × (s ≡ degree-of (now h)) ⌝ }
+pub fn check_pair(m: u64, g: &[u32], r: usize, h: &[u32], s: usize) -> Outcome
+    requires { ⌜ Measured r (now g) × Measured s (now h) ⌝ }
     ensures { λ o. ⌜ o ≡ check-pair m (now (g .entry)) (now (h .entry)) ⌝ }
 {
     let o = check_two(m, g, r, h, s);

@@ -21,39 +21,40 @@ use Rattle.refusal.specs.declared.Reason.the-variants.{Short}
 use Rattle.refusal.specs.declared.Outcome.{Outcome}
 use Rattle.refusal.specs.declared.Outcome.the-variants.{Answered, Refused}
 use Rattle.refusal.proofs.Outcomes.{answered}
+use Rattle.polynomial.specs.Moduli.{modulus}
 use Rattle.polynomial.specs.Checks.{check-one}
 use Rattle.algebra.proofs.Numbers.{table-ext}
-use Rattle.record.specs.Record.{word, record-bytes, coefficients, check-record, nothing, answer, checked}
+use Rattle.record.specs.Record.{word, record-bytes, coefficients, check-record, no-record, answer, checked}
 use Rattle.record.specs.declared.Checked.{Checked}
 
 module _ (b : List ℕ) where
   -- fewer bytes than a record has: No. 9 and nothing else is the answer
-  pub short-checked : {o : Outcome} → length b < record-bytes → o ≡ refusal Neither Short → nothing o ≡ checked b
+  pub short-checked : {o : Outcome} → length b < record-bytes → o ≡ refusal Neither Short → no-record o ≡ checked b
   unfolding checked check-record
   short-checked h e = simp (lt-ltb _ _ h, e)
 
-  enough : record-bytes ≤ length b → check-record b ≡ check-one (word b 0) (coefficients b)
+  enough : record-bytes ≤ length b → check-record b ≡ check-one (modulus (word b 0)) (coefficients b)
   unfolding check-record
   enough l = simp (le-ltb _ _ l)
 
-  refused-answer : (o : Outcome) → is-refused o ≡ true → nothing o ≡ answer o b
+  refused-answer : (o : Outcome) → is-refused o ≡ true → no-record o ≡ answer o b
   refused-answer Answered h = cc
   refused-answer (Refused r) h = refl
 
-  module _ {m : ℕ} {f : List ℕ} {o : Outcome} (long : record-bytes ≤ length b) (m-is : m ≡ word b 0) (f-is : f ≡ coefficients b) (o-is : o ≡ check-one m f) where
+  module _ {w m : ℕ} {f : List ℕ} {o : Outcome} (long : record-bytes ≤ length b) (w-is : w ≡ word b 0) (m-is : m ≡ modulus w) (f-is : f ≡ coefficients b) (o-is : o ≡ check-one m f) where
     outcome : check-record b ≡ o
-    outcome = enough long ∙ (simp (← m-is, ← f-is)) ∙ sym o-is
+    outcome = enough long ∙ (simp (← w-is, ← m-is, ← f-is)) ∙ sym o-is
 
     -- a whole record, and its checks refuse: their refusal and nothing else is the answer
-    pub refused-checked : is-refused o ≡ true → nothing o ≡ checked b
+    pub refused-checked : is-refused o ≡ true → no-record o ≡ checked b
     unfolding checked
     refused-checked h = rw outcome (refused-answer o h)
 
     -- a whole record, and its checks pass: its words and the degree are the answer
     pub answered-checked : {n : ℕ} → n ≡ degree f → is-refused o ≡ false
-        → _≡_ {A = Checked} (record { outcome = o; modulus = m; polynomial = f; degree = n }) (checked b)
+        → _≡_ {A = Checked} (record { outcome = o; modulus = w; polynomial = f; degree = n }) (checked b)
     unfolding checked
-    answered-checked n-is h = simp (outcome, answered {a = o} h, n-is, ← m-is, ← f-is)
+    answered-checked n-is h = simp (outcome, answered {a = o} h, n-is, ← w-is, ← f-is)
 
 -- two answers that satisfy the contract are equal
 pub check-unique : (b : List ℕ) {x y : Checked} → x ≡ checked b → y ≡ checked b → x ≡ y

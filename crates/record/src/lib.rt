@@ -2,7 +2,7 @@
 ghost use mathlib.Core.Path.{_≡_};
 ghost use Prim.Native.Nat.{_+_, _*_, _≤_, _<_};
 ghost use lib.ListN.{length};
-ghost use Rattle.record.specs.Record.{word as word-of, record-bytes, coefficients as coefficients-of, nothing as nothing-of, checked};
+ghost use Rattle.record.specs.Record.{word as word-of, record-bytes, coefficients as coefficients-of, no-record as no-record-of, checked};
 use polynomial::Coefficients;
 use polynomial::TERMS;
 use refusal::Concerns;
@@ -12,7 +12,7 @@ use refusal::Reason;
 // A word for the modulus and one for each coefficient, 4 bytes each.
 pub const BYTES: usize = 4 * (TERMS + 1);
 
-// What a record holds; all zero after a refusal.
+// What a record holds, its modulus as the word that stands there; all zero after a refusal.
 pub struct Checked {
     pub outcome: Outcome,
     pub modulus: u32,
@@ -50,8 +50,8 @@ fn coefficients(bytes: &[u8]) -> Coefficients
 }
 
 // The answer of a refused check.
-fn nothing(outcome: Outcome) -> Checked
-    ensures { λ r. ⌜ r ≡ nothing-of outcome ⌝ }
+fn no_record(outcome: Outcome) -> Checked
+    ensures { λ r. ⌜ r ≡ no-record-of outcome ⌝ }
 {
     Checked {
         outcome,
@@ -66,14 +66,14 @@ pub fn check(bytes: &[u8]) -> Checked
     ensures { λ r. ⌜ r ≡ checked (now (bytes .entry)) ⌝ }
 {
     if bytes.len() < BYTES {
-        return nothing(refusal::refused(Concerns::Neither, Reason::Short));
+        return no_record(refusal::refused(Concerns::Neither, Reason::Short));
     }
     let modulus = word(bytes, 0);
     let polynomial = coefficients(bytes);
     let degree = polynomial::degree(&polynomial);
-    let outcome = polynomial::check_one(modulus, &polynomial, degree);
+    let outcome = polynomial::check_one(polynomial::modulus(modulus), &polynomial, degree);
     if refusal::refuses(outcome) {
-        return nothing(outcome);
+        return no_record(outcome);
     }
     Checked {
         outcome,

@@ -7,9 +7,9 @@
 --   inner-extensional             lists that agree at the sum's indices have the same sum
 --   strided-..                    the same of `strided`
 --   stride-inside, stride-next    the place that a loop over i has reached
-use mathlib.Core.Path.{_≡_, refl, sym, _∙_, ap, ap₂, subst}
+use mathlib.Core.Path.{_≡_, sym, _∙_, ap, ap₂, subst}
 use mathlib.Core.List.{List}
-use Prim.Native.Nat.{ℕ, zero, suc, _+_, _-_, _*_, _≤_, _<_}
+use Prim.Native.Nat.{ℕ, suc, _+_, _-_, _*_, _≤_, _<_}
 use native.Mathlib.Nat.{add-assoc, sub-self}
 use native.Mathlib.Omega.{arith}
 use Rattle.algebra.specs.Number.{sum}
@@ -73,7 +73,7 @@ pub strided-extensional : (a a′ b b′ : List ℕ) (lo at step n : ℕ) → ((
 unfolding strided
 strided-extensional a a′ b b′ lo at step n e f = sum-ext n _ _ (λ i l. ap₂ _*_ (e i l) (f i l))
 
-pub stride-inside : {n at step lb : ℕ} (i : ℕ) {j : ℕ} → Strides n at step lb → i < n → j ≡ at + i * step → j < lb
+pub stride-inside : {la lb lo hi at step : ℕ} (i : ℕ) {j : ℕ} → Strides la lb lo hi at step → i < hi - lo → j ≡ at + i * step → j < lb
 stride-inside {lb = lb} i s h e = subst (λ (x : ℕ). x < lb) (sym e) (s .inside i h)
 
 pub stride-next : (i at step : ℕ) {i′ j : ℕ} → j ≡ at + i * step → i′ ≡ i + 1 → j + step ≡ at + i′ * step

@@ -1,24 +1,17 @@
 -- What an answer of `invert` says: which it is follows from a and m alone.
 --
---   inverse-invertible    an inverse makes a invertible
 --   inverse-coprime       an inverse makes a and m coprime
 --   shared-not-coprime    a shared factor rules that out
 --   inverse-unique        there is one right answer
 use mathlib.Core.Path.{_≡_, sym, _∙_, ap}
 use Prim.Native.Nat.{ℕ}
-use native.Mathlib.Nat.{mul-comm, one-mul, mod-eq-of-lt, dvd-mod-iff, dvd-mul-right-of-dvd, dvd-antisymm, eq-one-of-dvd-one}
+use native.Mathlib.Nat.{one-mul, mod-eq-of-lt, dvd-mod-iff, dvd-mul-right-of-dvd, dvd-antisymm, eq-one-of-dvd-one}
 use native.Mathlib.Omega.{arith}
-use Rattle.algebra.specs.Number.{Coprime, Invertible}
+use Rattle.algebra.specs.Number.{Coprime}
 use Rattle.residue.specs.Residue.{InverseIs}
 use Rattle.residue.specs.declared.Inverse.{Inverse}
 use Rattle.residue.specs.declared.Inverse.the-variants.{Of, Shared}
 use Rattle.residue.proofs.Congruent.{from-eq, reduced, turn, times, remainder, _then_}
-
-pub inverse-invertible : {a m x : ℕ} → InverseIs a m (Of x) → Invertible m a
-inverse-invertible {a} {x = x} e = record {
-  inverse = x;
-  unit = (from-eq (mul-comm x a) then turn (reduced (sym (e .1)))) .same;
-}
 
 pub inverse-coprime : {a m x : ℕ} → InverseIs a m (Of x) → Coprime a m
 inverse-coprime {a} {m} {x} e = record {

@@ -1,26 +1,18 @@
 // Numbers modulo m in code, for any modulus up to 2^32, prime or not.
 //
-//   add, subtract, multiply, two_products, power     one result below m
+//   subtract, multiply, two_products, power     one result below m
 //   invert                           the inverse, or the greatest common factor that is in the way
 //   inner_product                    a[lo]*b[k-lo] + .. + a[hi-1]*b[k-hi+1]: exact, and reduced once at the end
 //   strided_product                  a[lo]*b[at] + a[lo+1]*b[at+step] + ..: the same of numbers that lie apart
 ghost use mathlib.Core.Path.{_≡_};
-ghost use Prim.Native.Nat.{ℕ, _+_, _-_, _*_, _%_, _^_, _≤_, _<_};
+ghost use Prim.Native.Nat.{_+_, _-_, _*_, _%_, _^_, _≤_, _<_};
 ghost use lib.ListN.{length};
+ghost use Rattle.algebra.specs.Number.{Modulus};
 ghost use Rattle.residue.specs.Residue.{InverseIs, inner, Within, strided, Strides};
-
-// a + b modulo m.
-pub fn add(a: u32, b: u32, m: u64) -> u32
-    requires { ⌜ (a < m) × (b < m) × (m ≤ 2 ^ 32) ⌝ }
-    ensures { λ r. ⌜ r ≡ (a + b) % m ⌝ }
-{
-    let s = a as u64 + b as u64;
-    if s < m { s as u32 } else { (s - m) as u32 }
-}
 
 // a - b modulo m.
 pub fn subtract(a: u32, b: u32, m: u64) -> u32
-    requires { ⌜ (a < m) × (b < m) × (m ≤ 2 ^ 32) ⌝ }
+    requires { ⌜ Modulus m × (a < m) × (b < m) ⌝ }
     ensures { λ r. ⌜ r ≡ (a + (m - b)) % m ⌝ }
 {
     if b <= a {
@@ -32,7 +24,7 @@ pub fn subtract(a: u32, b: u32, m: u64) -> u32
 
 // a * b modulo m.
 pub fn multiply(a: u32, b: u32, m: u64) -> u32
-    requires { ⌜ (0 < m) × (m ≤ 2 ^ 32) ⌝ }
+    requires { ⌜ Modulus m ⌝ }
     ensures { λ r. ⌜ r ≡ a * b % m ⌝ }
 {
     (a as u64 * b as u64 % m) as u32
@@ -40,7 +32,7 @@ pub fn multiply(a: u32, b: u32, m: u64) -> u32
 
 // a * x + b * y modulo m, exact and reduced once.
 pub fn two_products(a: u32, x: u32, b: u32, y: u32, m: u64) -> u32
-    requires { ⌜ (0 < m) × (m ≤ 2 ^ 32) ⌝ }
+    requires { ⌜ Modulus m ⌝ }
     ensures { λ r. ⌜ r ≡ (a * x + b * y) % m ⌝ }
 {
     let w = Wide {
@@ -52,7 +44,7 @@ pub fn two_products(a: u32, x: u32, b: u32, y: u32, m: u64) -> u32
 
 // a^n modulo m, by squaring.
 pub fn power(a: u32, n: usize, m: u64) -> u32
-    requires { ⌜ (0 < m) × (m ≤ 2 ^ 32) ⌝ }
+    requires { ⌜ Modulus m ⌝ }
     ensures { λ r. ⌜ r ≡ a ^ n % m ⌝ }
 {
     let mut result = (1 % m) as u32;
@@ -76,7 +68,7 @@ pub enum Inverse {
 
 // t - s modulo m.
 fn less(t: u64, s: u64, m: u64) -> u64
-    requires { ⌜ (t < m) × (s < m) × (m ≤ 2 ^ 32) ⌝ }
+    requires { ⌜ Modulus m × (t < m) × (s < m) ⌝ }
     ensures { λ r. ⌜ (r < m) × ((r + s) % m ≡ t % m) ⌝ }
 {
     if s <= t { t - s } else { m - s + t }
@@ -84,7 +76,7 @@ fn less(t: u64, s: u64, m: u64) -> u64
 
 // The inverse of a modulo m, by Euclid's algorithm with coefficients modulo m: no prime is needed and no sign.
 pub fn invert(a: u64, m: u64) -> Inverse
-    requires { ⌜ (1 < m) × (m ≤ 2 ^ 32) ⌝ }
+    requires { ⌜ Modulus m ⌝ }
     ensures { λ r. ⌜ InverseIs a m r ⌝ }
 {
     let mut x = m;
@@ -132,7 +124,7 @@ fn added(w: Wide, p: u64) -> Wide
 
 // The sum modulo m: one division where it fits a word, two where not.
 fn reduced(w: Wide, m: u64) -> u32
-    requires { ⌜ (0 < m) × (m ≤ 2 ^ 32) × (w .high < 2 ^ 31) ⌝ }
+    requires { ⌜ Modulus m × (w .high < 2 ^ 31) ⌝ }
     ensures { λ r. ⌜ r ≡ (w .high * 2 ^ 64 + w .low) % m ⌝ }
 {
     if w.high == 0 {
@@ -151,8 +143,7 @@ fn whole(x: u32, y: u32) -> u64
 
 // The sum of a[i] * b[k - i] for i from lo to hi - 1, modulo m. The sum is exact: nothing is divided inside the loop.
 pub fn inner_product(a: &[u32], b: &[u32], k: usize, lo: usize, hi: usize, m: u64) -> u32
-    requires { ⌜ Within (length (now a)) (length (now b)) k lo hi ⌝ }
-    requires { ⌜ (0 < m) × (m ≤ 2 ^ 32) × (hi - lo < 2 ^ 31) ⌝ }
+    requires { ⌜ Modulus m × Within (length (now a)) (length (now b)) k lo hi ⌝ }
     ensures { λ r. ⌜ r ≡ inner (now (a .entry)) (now (b .entry)) k lo (hi - lo) % m ⌝ }
 {
     let mut w = Wide { high: 0, low: 0 };
@@ -172,8 +163,7 @@ pub fn strided_product(
     step: usize,
     m: u64,
 ) -> u32
-    requires { ⌜ (lo ≤ hi) × (hi ≤ length (now a)) × Strides (hi - lo) at step (length (now b)) ⌝ }
-    requires { ⌜ (0 < m) × (m ≤ 2 ^ 32) × (hi - lo < 2 ^ 31) × (at < 2 ^ 32) × (step < 2 ^ 32) ⌝ }
+    requires { ⌜ Modulus m × Strides (length (now a)) (length (now b)) lo hi at step ⌝ }
     ensures { λ r. ⌜ r ≡ strided (now (a .entry)) (now (b .entry)) lo at step (hi - lo) % m ⌝ }
 {
     let mut w = Wide { high: 0, low: 0 };

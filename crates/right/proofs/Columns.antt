@@ -112,9 +112,19 @@ module _ {n r s k l : ℕ} (D : Degrees n r s) (e : l ≡ min r k) where
   pub column-room : 0 < k → (l - 1 + 1) * s ≤ limit
   column-room kp = omega (arith, mul-le-mul-right {m = l - 1 + 1} {n = r} s (omega arith))
 
-  pub column-strides : {len : ℕ} → k < s → len ≡ terms → Strides (l + 1 - 2) (s + k) s len
-  unfolding terms
-  column-strides ks f = record { inside = λ i h. omega (arith, mul-le-mul-right {m = i + 2} {n = r} s (omega arith)) }
+  pub column-strides : {la lb : ℕ} → 0 < k → k < s → l < la → lb ≡ terms → Strides la lb 2 (l + 1) (s + k) s
+  unfolding terms limit
+  column-strides kp ks f g =
+      let p = left-twice D in
+      let q = right-twice D in
+      record {
+        order = omega arith;
+        first = omega arith;
+        inside = λ i h. omega (arith, mul-le-mul-right {m = i + 2} {n = r} s (omega arith));
+        few = omega arith;
+        start = omega arith;
+        stride = omega arith;
+      }
 
 -- y = (a - S) / r
 solved : (m r u a S : ℕ) {d x y : ℕ} → 0 < m → u * r % m ≡ 1 % m → d ≡ S % m → x ≡ (a + (m - d)) % m → y ≡ x * u % m → (r * y + S) % m ≡ a % m

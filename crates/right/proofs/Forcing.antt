@@ -8,7 +8,7 @@ use native.Mathlib.Nat.{mul-le-mul-right, mod-mod, not-suc-le-zero}
 use native.Mathlib.Omega.{arith}
 use Rattle.algebra.specs.Number.{choose}
 use Rattle.algebra.specs.Polynomial.{coef, power, Monic}
-use Rattle.algebra.specs.Pair.{ForcedRight, cleared}
+use Rattle.algebra.specs.Pair.{ForcedRight, terms-from}
 use Rattle.algebra.proofs.Ring.{Ring}
 use Rattle.algebra.proofs.Ring as A
 use Rattle.algebra.proofs.Series as S
@@ -38,7 +38,7 @@ module _ (R : Ring) where
 
 -- the two sides of 01's equation: that place of h^r knows h's own coefficient only by r times it
 power-term : {m : ℕ} (pos : 0 < m) (r : ℕ) {s : ℕ} {h : List ℕ} → 0 < r → Monic m s h → (k : ℕ) → 0 < k → k < s
-    → coef (power h r) (r * s - k) % m ≡ (coef (power (cleared (suc (s - k)) h) r) (r * s - k) + r * coef h (s - k)) % m
+    → coef (power h r) (r * s - k) % m ≡ (coef (power (terms-from (suc (s - k)) h) r) (r * s - k) + r * coef h (s - k)) % m
 power-term pos zero rp mon k kp ks = absurd (not-suc-le-zero rp)
 power-term {m} pos (suc r) {s} rp mon k kp ks =
     let place : s - k + r * s ≡ suc r * s - k = omega arith in

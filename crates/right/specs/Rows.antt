@@ -2,6 +2,7 @@
 --
 --   Binomials m r b         row r of the binomials modulo m
 --   Before s k a b          b has the columns below k of a
+--   ColumnRoom s k n a      column k of the rows after the first, n of them, lies in a
 --   Column m s k n a b      from a to b only column k has changed; its n rows after the first follow from the columns before
 --   Rows m f r s b K a      the columns below K are those of the forced right part of f
 --   Upside s a h            h is monic of degree s, has no constant, and is row 0 between, from the top
@@ -10,7 +11,7 @@ use mathlib.Core.List.{List}
 use Prim.Native.Nat.{ℕ, suc, min, _+_, _*_, _-_, _%_, _≤_, _<_}
 use lib.ListN.{length}
 use Rattle.algebra.specs.Number.{choose}
-use Rattle.algebra.specs.Polynomial.{coef, terms}
+use Rattle.algebra.specs.Polynomial.{coef, limit, terms}
 use Rattle.residue.specs.Residue.{inner, strided}
 use Rattle.binomial.specs.Triangle.{rows}
 
@@ -22,6 +23,13 @@ pub record Binomials (m r : ℕ) (b : List ℕ) : Type 0 where
 -- the columns below k are the same
 pub record Before (s k : ℕ) (a b : List ℕ) : Type 0 where
   pub at : (i c : ℕ) → c < k → coef b (i * s + c) ≡ coef a (i * s + c)
+
+-- the list is long enough for n rows after the first, which is shorter than k
+pub record ColumnRoom (s k n : ℕ) (a : List ℕ) : Type 0 where
+  pub long : length a ≡ terms
+  pub inside : k < s
+  pub few : n < k
+  pub room : (n + 1) * s ≤ limit
 
 -- only column k has changed, and its n rows after the first are products of what stands before it
 pub record Column (m s k n : ℕ) (a b : List ℕ) : Type 0 where

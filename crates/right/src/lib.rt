@@ -3,13 +3,13 @@
 // h = x^s + t, and the powers of h come from those of t by the binomials. Counted from the top, T_i[k] is the coefficient of
 // x^(is-k) in t^i; then r·c_(s-k) = a_(n-k) - d with d the sum of C(r, i)·T_i[k] over i from 2 on. No entry is ever updated.
 ghost use mathlib.Core.Path.{_≡_};
-ghost use Prim.Native.Nat.{_+_, _*_, _%_, _^_, _≤_, _<_};
+ghost use Prim.Native.Nat.{_+_, _≤_, _<_};
 ghost use lib.ListN.{length};
-ghost use Rattle.algebra.specs.Polynomial.{limit, terms, Reduced};
+ghost use Rattle.algebra.specs.Number.{Modulus};
+ghost use Rattle.algebra.specs.Polynomial.{limit, terms};
 ghost use Rattle.binomial.specs.Triangle.{rows, triangle};
-ghost use Rattle.polynomial.specs.Degrees.{Degrees};
-ghost use Rattle.right.specs.Right.{RightPart};
-ghost use Rattle.right.specs.Rows.{Binomials, Column, Rows, Upside};
+ghost use Rattle.right.specs.Right.{RightAsked, RightPart};
+ghost use Rattle.right.specs.Rows.{Binomials, ColumnRoom, Column, Rows, Upside};
 use binomial::ENTRIES;
 use binomial::ROWS;
 use polynomial::Coefficients;
@@ -17,7 +17,7 @@ use polynomial::TERMS;
 
 // Row r of the binomials, modulo m.
 fn binomials(table: &[u64; ENTRIES], r: usize, m: u64) -> [u32; ROWS]
-    requires { ⌜ (r < rows) × (0 < m) × (m ≤ 2 ^ 32) × (now table ≡ triangle rows) ⌝ }
+    requires { ⌜ Modulus m × (r < rows) × (now table ≡ triangle rows) ⌝ }
     ensures { λ b. ⌜ Binomials m r b ⌝ }
 {
     let mut b = [0; ROWS];
@@ -29,7 +29,7 @@ fn binomials(table: &[u64; ENTRIES], r: usize, m: u64) -> [u32; ROWS]
 
 // Column k of the rows 1 to n: each entry is one inner product of what stands before it.
 fn column(t: &mut [u32], s: usize, k: usize, n: usize, m: u64)
-    requires { ⌜ (length (now t) ≡ terms) × (k < s) × (n < k) × ((n + 1) * s ≤ limit) × (0 < m) × (m ≤ 2 ^ 32) ⌝ }
+    requires { ⌜ Modulus m × ColumnRoom s k n (now t) ⌝ }
     ensures { λ _. ⌜ Column m s k n (now (t .entry)) (now (t .exit)) ⌝ }
 {
     let mut at = k;
@@ -42,8 +42,8 @@ fn column(t: &mut [u32], s: usize, k: usize, n: usize, m: u64)
 
 // Column k, whole: the rows after the first, then the place of row 0 that 01's equation asks, by the inverse u of r.
 fn next(t: &mut [u32], f: &[u32], b: &[u32], n: usize, r: usize, s: usize, k: usize, u: u32, m: u64)
-    requires { ⌜ Degrees n r s × Reduced m (now f) × Binomials m r (now b) × Rows m (now f) r s (now b) k (now t) ⌝ }
-    requires { ⌜ (0 < k) × (k < s) × (u < m) × (u * r % m ≡ 1 % m) × (1 < m) × (m ≤ 2 ^ 32) ⌝ }
+    requires { ⌜ RightAsked m n r s u (now f) × Binomials m r (now b) ⌝ }
+    requires { ⌜ Rows m (now f) r s (now b) k (now t) × (0 < k) × (k < s) ⌝ }
     ensures { λ _. ⌜ Rows m (now (f .entry)) r s (now (b .entry)) (k + 1) (now (t .exit)) ⌝ }
 {
     let last = polynomial::smaller(r, k);
@@ -76,8 +76,7 @@ pub fn right_part(
     table: &[u64; ENTRIES],
     m: u64,
 ) -> Coefficients
-    requires { ⌜ Degrees n r s × Reduced m (now f) × (now table ≡ triangle rows) ⌝ }
-    requires { ⌜ (u < m) × (u * r % m ≡ 1 % m) × (1 < m) × (m ≤ 2 ^ 32) ⌝ }
+    requires { ⌜ RightAsked m n r s u (now f) × (now table ≡ triangle rows) ⌝ }
     ensures { λ h. ⌜ RightPart m (now (f .entry)) r s h ⌝ }
 {
     let b = binomials(table, r, m);

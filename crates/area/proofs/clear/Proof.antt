@@ -1,7 +1,7 @@
 use Rattle.algebra.specs.Polynomial.{limit, terms}
 use mathlib.Core.Path.{_≡_, ap, _∙_}
 use mathlib.Core.List.{_++_}
-use Prim.Native.Nat.{ℕ, _≤_, _-_, _+_}
+use Prim.Native.Nat.{ℕ, _≤_, _-_}
 use native.Mathlib.Omega.{arith}
 use Rattle.area.specs.Area.{most-parts, area-words, cleared}
 use borrow.Author.Needs.{needs}

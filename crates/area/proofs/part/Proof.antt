@@ -18,13 +18,13 @@ returns-3 : tie.Need-returns-3
 unfolding area-words most-parts terms limit
 returns-3 c =
     let k = c .before .before in
-    zero _ _ (omega arith) (omega arith) (k .is-zero .result) (k .is-zero .ensures) (c .before .if3 .taken)
+    zero _ _ (omega arith) (omega arith) (k .before .before .start .ensures) (k .is-zero .result) (k .is-zero .ensures) (c .before .if3 .taken)
 
 returns-4 : tie.Need-returns-4
 unfolding area-words most-parts terms limit
 returns-4 c =
     let k = c .before in
-    full _ _ (omega arith) (omega arith) (k .is-zero .result) (k .is-zero .ensures) (c .if3 .left)
+    full _ _ (omega arith) (omega arith) (k .before .before .start .ensures) (k .is-zero .result) (k .is-zero .ensures) (c .if3 .left)
 
 pub part-spec : {M : Type 1} → statement M
 unfolding area-words most-parts terms limit
@@ -39,7 +39,7 @@ part-spec =
     (λ c. search needs)
     (λ c. search needs)
     returns-2
-    (λ c. search needs)
+    (λ c κs. search needs)
     (λ c. search needs)
     (λ c. search needs)
     (λ c. search needs)

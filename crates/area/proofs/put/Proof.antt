@@ -1,5 +1,5 @@
 use mathlib.Core.Path.{_≡_}
-use Prim.Native.Nat.{_-_, _+_, _*_}
+use Prim.Native.Nat.{_-_, _+_}
 use native.Mathlib.Omega.{arith}
 use borrow.Author.Needs.{needs}
 use Rattle.algebra.specs.Polynomial.{limit, terms}
@@ -10,16 +10,16 @@ use Rattle.area.proofs.put.Tie as tie
 returns : tie.Need-returns
 unfolding put-at area-words most-parts terms limit
 returns c =
-    let a = c .before .before .before .before .before .before .args in
-    let e : a .i * terms + terms - a .i * terms ≡ terms = omega arith in
-    rw (e, c .before .before .copy .ensures)
+    let s = c .before .before .before .before .start in
+    let e : s .result + terms - s .result ≡ terms = omega arith in
+    rw (e, s .ensures, c .before .before .copy .ensures)
 
 pub put-spec : {M : Type 1} → statement M
 unfolding area-words most-parts terms limit
 put-spec =
     tie.close
     (tie.spec
-    (λ c. search needs)
+    (λ c κs. search needs)
     (λ c. search needs)
     (λ c. search needs)
     (λ c. search needs)

@@ -1,8 +1,6 @@
-use mathlib.Core.Path.{_≡_}
-use Prim.Native.Nat.{ℕ, _+_, _*_, _≤_}
+use Prim.Native.Nat.{_+_, _*_, _≤_}
 use native.Mathlib.Nat.{mul-le-mul}
 use native.Mathlib.Omega.{arith}
-use borrow.Author.Needs.{needs}
 use Rattle.binomial.specs.Triangle.{rows, sums, row, triangle}
 use Rattle.binomial.proofs.Entries.{place, at}
 use Rattle.binomial.proofs.entry.Statement.{statement}

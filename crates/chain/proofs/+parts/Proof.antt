@@ -34,7 +34,7 @@ parts-returns : (t : ℕ) → parts-lts.Need-returns (parts-claims t) (parts-at 
 parts-returns t c =
     let e = c .before .before .before .before .before in
     let p = e .before .before .before .before .pre .1 in
-    rw (c .before .before .put .ensures) (chained-whole _ (p .1 .1) (p .0 .1) (p .0 .0) (e .before .before .first-split .ensures .no (not-true _ (e .if1 .taken))))
+    rw (c .before .before .put .ensures) (chained-whole _ (p .0 .modulus .above-one) (p .0 .whole .monic) (p .0 .whole .reduced) (e .before .before .first-split .ensures .no (not-true _ (e .if1 .taken))))
 
 -- a right degree is not 0
 parts-div-parts : (t : ℕ) → parts-lts.Need-div-parts (parts-claims t) (parts-at t) parts.Post
@@ -48,8 +48,19 @@ parts-parts-requires t c κs =
     let e = c .before .before .before in
     let p = e .before .before .before .before .pre .1 in
     let z = e .before .before .first-split .ensures .yes (not-false _ (e .if1 .left)) in
-    let l = left-less z in
-    (omega arith, ((z .pair .reduced-left, z .pair .pair .left, left-coprime _ (p .1 .1) (p .0 .2) (z .product), z .two-left, omega arith, p .0 .5), p .1))
+    let l = left-less z in (
+      omega arith,
+      (
+        record {
+          modulus = p .0 .modulus;
+          whole = record { reduced = z .pair .reduced-left; monic = z .pair .pair .left; within = omega arith };
+          two = z .two-left;
+          coprime = left-coprime _ (p .0 .modulus .above-one) (p .0 .coprime) (z .product);
+          binomials = p .0 .binomials;
+        },
+        p .1,
+      ),
+    )
 
 -- there is a next place
 parts-put-requires-2 : (t : ℕ) → parts-lts.Need-put-requires-2 (parts-claims t) (parts-at t) parts.Post
@@ -57,7 +68,7 @@ parts-put-requires-2 t c κs =
     let e = c .before .before .before .before .before .before .before .before in
     let p = e .before .before .before .before .pre .1 in
     let z = e .before .before .first-split .ensures .yes (not-false _ (e .if1 .left)) in
-    (omega (arith, next-place z (c .before .before .before .before .parts .ensures) (p .0 .3) (p .0 .4)), omega arith, z .pair .reduced-right .long)
+    (omega (arith, next-place z (c .before .before .before .before .parts .ensures) (p .0 .two) (p .0 .whole .within)), omega arith, z .pair .reduced-right .long)
 
 parts-add-count : (t : ℕ) → parts-lts.Need-add-count (parts-claims t) (parts-at t) parts.Post
 unfolding most-parts
@@ -65,7 +76,7 @@ parts-add-count t c =
     let e = c .before .before .before .before .before .before .before .before .before .before .before .before in
     let p = e .before .before .before .before .pre .1 in
     let z = e .before .before .first-split .ensures .yes (not-false _ (e .if1 .left)) in
-    omega (arith, next-place z (c .before .before .before .before .before .before .before .before .parts .ensures) (p .0 .3) (p .0 .4))
+    omega (arith, next-place z (c .before .before .before .before .before .before .before .before .parts .ensures) (p .0 .two) (p .0 .whole .within))
 
 -- tries and price are at most n
 parts-add-tries : (t : ℕ) → parts-lts.Need-add-tries (parts-claims t) (parts-at t) parts.Post
@@ -74,7 +85,7 @@ parts-add-tries t c =
     let e = c .before .before .before .before .before .before .before .before .before .before .before .before .before .before in
     let p = e .before .before .before .before .pre .1 in
     let z = e .before .before .first-split .ensures .yes (not-false _ (e .if1 .left)) in
-    omega (arith, p .0 .4, chained-within (p .1 .1) (chained-more z (c .before .before .before .before .before .before .before .before .before .before .parts .ensures) (p .1 .1)) .0)
+    omega (arith, p .0 .whole .within, chained-within (p .0 .modulus .above-one) (chained-more z (c .before .before .before .before .before .before .before .before .before .before .parts .ensures) (p .0 .modulus .above-one)) .0)
 
 parts-add-price : (t : ℕ) → parts-lts.Need-add-price (parts-claims t) (parts-at t) parts.Post
 unfolding limit
@@ -82,7 +93,7 @@ parts-add-price t c =
     let e = c .before .before .before .before .before .before .before .before .before .before .before .before .before .before .before in
     let p = e .before .before .before .before .pre .1 in
     let z = e .before .before .first-split .ensures .yes (not-false _ (e .if1 .left)) in
-    omega (arith, p .0 .4, chained-within (p .1 .1) (chained-more z (c .before .before .before .before .before .before .before .before .before .before .before .parts .ensures) (p .1 .1)) .1)
+    omega (arith, p .0 .whole .within, chained-within (p .0 .modulus .above-one) (chained-more z (c .before .before .before .before .before .before .before .before .before .before .before .parts .ensures) (p .0 .modulus .above-one)) .1)
 
 -- the parts of the left part, and the right part
 parts-returns-2 : (t : ℕ) → parts-lts.Need-returns-2 (parts-claims t) (parts-at t) parts.Post
@@ -90,7 +101,7 @@ parts-returns-2 t c =
     let e = c .before .before .before .before .before .before .before .before .before .before .before .before .before .before .before in
     let p = e .before .before .before .before .pre .1 in
     let z = e .before .before .first-split .ensures .yes (not-false _ (e .if1 .left)) in
-    rw (c .before .before .before .before .before .before .put2 .ensures) (chained-more z (c .before .before .before .before .before .before .before .before .before .before .before .parts .ensures) (p .1 .1))
+    rw (c .before .before .before .before .before .before .put2 .ensures) (chained-more z (c .before .before .before .before .before .before .before .before .before .before .before .parts .ensures) (p .0 .modulus .above-one))
 
 pub +parts-spec : {M : Type 1} → statement M
 unfolding terms limit most-parts area-words

@@ -3,6 +3,7 @@ use mathlib.Core.Logic.{⊎-elim}
 use Prim.Native.Nat.{_+_, _-_, _/_, _≤_}
 use native.Mathlib.Omega.{arith}
 use borrow.Author.Needs.{needs}
+use borrow.Author.Tests.{not-true, not-false}
 use Rattle.chain.proofs.Rounds.{Passed, passed-none, passed-few, passed-over, passed-missed, passed-hit, passed-all, half-degrees, left-coprime, hit, miss}
 use Rattle.chain.proofs.first_split.Statement.{statement}
 use Rattle.chain.proofs.first_split.Tie as tie
@@ -23,7 +24,7 @@ add-tries c = omega (arith, passed-few (c .before .before .loop .inv .0))
 split-at-requires : tie.Need-split-at-requires Inv-loop μ-loop
 split-at-requires c κs =
     let p = c .before .before .before .pre in
-    ((half-degrees (c .before .before .loop .inv .0) (c .if1 .taken) (omega arith) (p .0 .4), p .0 .0, p .0 .1, p .0 .5), p .1)
+    record { modulus = p .modulus; degrees = half-degrees (c .before .before .loop .inv .0) (c .if1 .taken) (omega arith) (p .whole .within); whole = p .whole; binomials = p .binomials }
 
 returns : tie.Need-returns Inv-loop μ-loop
 returns c =
@@ -31,8 +32,8 @@ returns c =
     let a = c .before .before .before .before .split-at in
     let p = t .before .before .before .pre in
     let i = t .before .before .loop .inv .0 in
-    let d = half-degrees i (t .if1 .taken) (omega arith) (p .0 .4) in
-    passed-hit i (t .if1 .taken) d (hit (a .result .verdict) (sym (c .before .before .before .is-pair .ensures) ∙ c .before .before .if2 .taken) (a .ensures))
+    let d = half-degrees i (t .if1 .taken) (omega arith) (p .whole .within) in
+    passed-hit i (t .if1 .taken) d (hit (sym (c .before .before .before .refuses .ensures) ∙ not-true _ (c .before .before .if2 .taken)) (a .ensures))
 
 -- s divides n and there was no pair, or s does not divide n
 loop-again : tie.Need-loop-again Inv-loop μ-loop
@@ -41,9 +42,9 @@ loop-again c =
     let i = c .before .before .loop .inv .0 in (
       ⊎-elim
           (λ w.
-          let d = half-degrees i (w .0 .taken) (omega arith) (p .0 .4) in
+          let d = half-degrees i (w .0 .taken) (omega arith) (p .whole .within) in
           let a = w .1 in
-          let none = miss (a .result .left) (a .result .right) (a .result .verdict) (sym (w .2 .ensures) ∙ w .3 .left) (left-coprime _ (p .1 .0) (p .0 .2) (d .product)) (a .ensures) in
+          let none = miss (sym (w .2 .ensures) ∙ not-false _ (w .3 .left)) (left-coprime _ (p .modulus .above-one) (p .coprime) (d .product)) (a .ensures) in
           rw (w .4) (passed-missed i (w .0 .taken) none))
           (λ w. rw (w .1) (passed-over i (w .0 .left)))
           (c .if1 .came),

@@ -7,10 +7,10 @@ use Rattle.change.proofs.changed.Tie as tie
 
 multiple-requires : tie.Need-multiple-requires
 unfolding terms limit
-multiple-requires c κs = (omega arith, omega arith, omega arith)
+multiple-requires c κs = (search needs, omega arith)
 
 returns : tie.Need-returns
-returns c = let a = c .before .before .before .before .before in changed-is (omega arith) _ _ _ _ (a .pre .1 .0) (c .before .power .ensures) (a .pre .0 .0 .long) (c .before .before .before .moved .ensures) (c .multiple .ensures)
+returns c = let a = c .before .before .before .before .before in changed-is (omega arith) _ _ _ _ (a .pre .0 .unit) (c .before .power .ensures) (a .pre .1) (c .before .before .before .moved .ensures) (c .multiple .ensures)
 
 pub changed-spec : {M : Type 1} → statement M
 changed-spec =

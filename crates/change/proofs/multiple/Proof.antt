@@ -1,10 +1,11 @@
-use mathlib.Core.Path.{refl}
-use Prim.Native.Nat.{_-_, _*_, _%_, _≤_}
+use mathlib.Core.Path.{refl, sym, ap, _∙_}
+use Prim.Native.Nat.{ℕ, _-_, _*_, _%_, _≤_}
 use native.Mathlib.Omega.{arith}
 use borrow.Author.Needs.{needs}
-use Rattle.algebra.specs.Polynomial.{coef, limit, terms}
+use Rattle.algebra.specs.Polynomial.{coef, limit, terms, reduced}
 use Rattle.polynomial.proofs.Filling.{Filled, filled-none, filled-more, filled-all}
-use Rattle.change.specs.Moving.{multiple}
+use Rattle.algebra.proofs.Numbers.{table-ext}
+use Rattle.algebra.proofs.Coefficients.{coef-scaled}
 use Rattle.change.proofs.multiple.Statement.{statement}
 use Rattle.change.proofs.multiple.Tie as tie
 
@@ -32,8 +33,10 @@ unfolding terms limit
 loop-again c = (omega arith, filled-more (omega arith) (c .multiply .ensures) (c .before .before .before .loop .inv .1))
 
 returns : tie.Need-returns Inv-loop μ-loop
-unfolding multiple terms limit
-returns c = filled-all (omega arith) (c .before .loop .inv .1)
+unfolding reduced terms limit
+returns c =
+    filled-all (omega arith) (c .before .loop .inv .1)
+    ∙ table-ext terms _ _ (λ k l. ap (λ (x : ℕ). x % c .before .before .before .args .m) (sym (coef-scaled _ _ k)))
 
 pub multiple-spec : {M : Type 1} → statement M
 multiple-spec =

@@ -12,7 +12,7 @@ returns-2 : tie.Need-returns-2
 returns-2 c = tests-no (λ p. omega (arith, p .origin-below))
 
 returns-3 : tie.Need-returns-3
-returns-3 c = tests-yes (omega arith) (omega arith) (rw (c .before .u .given .1) at (c .before .before .before .invert .ensures))
+returns-3 c = tests-yes (search needs) (omega arith) (omega arith) (rw (c .before .u .given .1) at (c .before .before .before .invert .ensures))
 
 returns-4 : tie.Need-returns-4
 returns-4 c = tests-no (λ p. shared-not-coprime (rw (c .enum-told .given .1) at (c .before .before .invert .ensures)) (p .invertible))

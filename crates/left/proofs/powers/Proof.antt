@@ -13,22 +13,22 @@ abbrev μ-loop : tie.MeasureT-loop
 μ-loop t₀ h r s m i₀ t i = r - i
 
 slice-write-t : tie.Need-slice-write-t Inv-loop μ-loop
-slice-write-t c = blank-place (c .before .before .pre .0 .0)
+slice-write-t c = blank-place (c .before .before .pre .1)
 
 loop-holds : tie.Need-loop-holds Inv-loop μ-loop
-loop-holds c = (omega arith, first-row _ (omega arith) (c .before .before .pre .0 .0))
+loop-holds c = (omega arith, first-row _ (omega arith) (c .before .before .pre .1))
 
 next-row-requires : tie.Need-next-row-requires Inv-loop μ-loop
 next-row-requires c κs =
     let p = c .before .before .before .before .before .pre in
     let l = c .before .before .loop in
-    ((l .inv .1, p .0 .1, p .0 .2), (omega arith, power-within _ (omega arith) (p .1 .1), omega arith, omega arith))
+    (record { modulus = p .0 .modulus; held = p .0 .held; two = p .0 .two; within = power-within _ (omega arith) (p .0 .within) }, l .inv .1)
 
 loop-again : tie.Need-loop-again Inv-loop μ-loop
 loop-again c = (omega arith, c .before .before .next-row .ensures)
 
 same-length : tie.Need-same-length Inv-loop μ-loop
-same-length c = c .before .loop .inv .1 .long ∙ sym (blank-long (c .before .before .before .before .pre .0 .0))
+same-length c = c .before .loop .inv .1 .long ∙ sym (blank-long (c .before .before .before .before .pre .1))
 
 returns : tie.Need-returns Inv-loop μ-loop
 returns c =

@@ -1,10 +1,11 @@
+use borrow.Author.Needs.{needs}
 use mathlib.Core.Path.{_≡_}
 use Prim.Native.Nat.{_+_, _-_, _≤_, _<_}
 use native.Mathlib.Nat as N
 use native.Mathlib.Omega.{arith}
 use Rattle.algebra.specs.Polynomial.{terms, limit}
 use Rattle.residue.specs.Residue.{strided}
-use Rattle.left.specs.Powers.{rows}
+use Rattle.left.specs.Powers.{powers-kept}
 use Rattle.left.proofs.Rowing.{row-within, power-within}
 use Rattle.left.proofs.Solving.{Solving, solving-none, solving-more, solving-all}
 use Rattle.left.proofs.solve.Statement.{statement}
@@ -12,7 +13,7 @@ use Rattle.left.proofs.solve.Tie as tie
 
 -- the measure is j, and the places of g from j on are solved
 abbrev Inv-loop : tie.InvT-loop
-Inv-loop f t r s m g₀ j₀ g j = (j ≤ r + 1) × (r < rows) × Solving m f t r s j g
+Inv-loop f t r s m g₀ j₀ g j = (j ≤ r + 1) × (r < powers-kept) × Solving m f t r s j g
 
 abbrev μ-loop : tie.MeasureT-loop
 μ-loop f t r s m g₀ j₀ g j = j
@@ -20,13 +21,13 @@ abbrev μ-loop : tie.MeasureT-loop
 add-j : tie.Need-add-j Inv-loop μ-loop
 unfolding terms
 add-j c =
-    let l = row-within (c .before .before .pre .2) (c .before .before .pre .3) in
+    let l = row-within (c .before .before .pre .two) (c .before .before .pre .within) in
     omega arith
 
 loop-holds : tie.Need-loop-holds Inv-loop μ-loop
 unfolding terms limit
 loop-holds c =
-    let l = row-within (c .before .before .pre .2) (c .before .before .pre .3) in
+    let l = row-within (c .before .before .pre .two) (c .before .before .pre .within) in
     (omega arith, l, solving-none (omega arith))
 
 slice-aggregate-strided-product : tie.Need-slice-aggregate-strided-product Inv-loop μ-loop
@@ -52,55 +53,55 @@ mul-strided-product c = omega arith
 mul-strided-product-2 : tie.Need-mul-strided-product-2 Inv-loop μ-loop
 unfolding terms
 mul-strided-product-2 c =
-    let l = power-within {i = c .before .before .loop .j - 1} _ (omega arith) (c .before .before .before .before .before .pre .3) in
+    let l = power-within {i = c .before .before .loop .j - 1} _ (omega arith) (c .before .before .before .before .before .pre .within) in
     omega arith
 
 add-strided-product-4 : tie.Need-add-strided-product-4 Inv-loop μ-loop
 unfolding terms limit
 add-strided-product-4 c =
-    let l = power-within {i = c .before .before .loop .j - 1} _ (omega arith) (c .before .before .before .before .before .pre .3) in
+    let l = power-within {i = c .before .before .loop .j - 1} _ (omega arith) (c .before .before .before .before .before .pre .within) in
     omega arith
 
 strided-product-requires : tie.Need-strided-product-requires Inv-loop μ-loop
-unfolding rows terms limit
+unfolding powers-kept terms limit
 strided-product-requires c κs =
-    let l = power-within {i = c .before .before .loop .j - 1} _ (omega arith) (c .before .before .before .before .before .pre .3) in
-    ((omega arith, omega arith, record { inside = λ i b. omega arith }), (omega arith, omega arith, omega arith, omega arith, omega arith))
+    let l = power-within {i = c .before .before .loop .j - 1} _ (omega arith) (c .before .before .before .before .before .pre .within) in
+    (search needs, record { order = omega arith; first = omega arith; inside = λ i b. omega arith; few = omega arith; start = omega arith; stride = omega arith })
 
 mul-subtract : tie.Need-mul-subtract Inv-loop μ-loop
 unfolding terms
 mul-subtract c =
-    let l = power-within {i = c .before .before .before .loop .j - 1} _ (omega arith) (c .before .before .before .before .before .before .pre .3) in
+    let l = power-within {i = c .before .before .before .loop .j - 1} _ (omega arith) (c .before .before .before .before .before .before .pre .within) in
     omega arith
 
 mul-subtract-2 : tie.Need-mul-subtract-2 Inv-loop μ-loop
 unfolding terms
 mul-subtract-2 c =
-    let l = power-within {i = c .before .before .before .loop .j - 1} _ (omega arith) (c .before .before .before .before .before .before .pre .3) in
+    let l = power-within {i = c .before .before .before .loop .j - 1} _ (omega arith) (c .before .before .before .before .before .before .pre .within) in
     omega arith
 
 shared-slice-read-subtract : tie.Need-shared-slice-read-subtract Inv-loop μ-loop
 unfolding terms
 shared-slice-read-subtract c =
-    let l = power-within {i = c .before .before .before .before .loop .j - 1} _ (omega arith) (c .before .before .before .before .before .before .before .pre .3) in
+    let l = power-within {i = c .before .before .before .before .loop .j - 1} _ (omega arith) (c .before .before .before .before .before .before .before .pre .within) in
     omega arith
 
 subtract-requires : tie.Need-subtract-requires Inv-loop μ-loop
 unfolding terms
 subtract-requires c κs =
-    let l = power-within {i = c .before .before .before .before .loop .j - 1} _ (omega arith) (c .before .before .before .before .before .before .before .pre .3) in
-    (c .before .before .before .before .before .before .before .pre .0 .below _ (omega arith), rw (c .before .strided-product .ensures) (N.mod-lt (strided _ _ _ _ _ _) (omega arith)), omega arith)
+    let l = power-within {i = c .before .before .before .before .loop .j - 1} _ (omega arith) (c .before .before .before .before .before .before .before .pre .within) in
+    (search needs, c .before .before .before .before .before .before .before .pre .reduced .below _ (omega arith), rw (c .before .strided-product .ensures) (N.mod-lt (strided _ _ _ _ _ _) (omega arith)))
 
 mul-g : tie.Need-mul-g Inv-loop μ-loop
 unfolding terms
 mul-g c = omega arith
 
 array-write-g : tie.Need-array-write-g Inv-loop μ-loop
-unfolding rows limit
+unfolding powers-kept limit
 array-write-g c = omega arith
 
 loop-again : tie.Need-loop-again Inv-loop μ-loop
-unfolding rows terms limit
+unfolding powers-kept terms limit
 loop-again c = (
   omega arith,
   omega arith,

@@ -1,39 +1,49 @@
-use mathlib.Core.Path.{sym, _∙_}
+use mathlib.Core.Path.{_≡_, sym, _∙_}
+use mathlib.Core.Bool.{false}
 use native.Mathlib.Omega.{arith}
 use borrow.Author.Needs.{needs}
 use Rattle.algebra.specs.Polynomial.{terms, limit}
+use Rattle.refusal.specs.Refusal.{is-refused}
 use Rattle.area.specs.Area.{most-parts, area-words}
-use Rattle.listing.proofs.Telling.{told-answered, told-shared, told-listed}
+use Rattle.listing.proofs.Telling.{Fitting, told-answered, told-unchained, told-chained}
 use Rattle.listing.proofs.accepted_line.Statement.{statement}
 use Rattle.listing.proofs.accepted_line.Tie as tie
 
 returns : tie.Need-returns
 unfolding area-words most-parts terms limit
-returns c = told-shared (c .before .before .before .before .before .before .before .before .chain .ensures) (omega arith) (c .before .before .before .before .before .before .before .before .before .before .before .pre .0) (sym (c .before .before .before .before .before .before .refuses .ensures) ∙ c .before .before .before .before .before .if1 .taken) (c .before .before .before .before .number-of .ensures) (c .before .before .refused-line .ensures)
+returns c =
+    let t = c .before .before .before .before .before in
+    told-unchained (t .before .before .before .chain .ensures) (sym (t .before .refuses .ensures) ∙ t .if1 .taken) (c .before .before .before .before .number-of .ensures) (c .before .before .refused-line .ensures)
+
+module _ (e : tie.Else1) where
+  answers : is-refused (e .before .before .before .chain .result .outcome) ≡ false
+  answers = sym (e .before .refuses .ensures) ∙ e .if1 .left
+
+  fitting : Fitting (e .before .before .before .before .before .before .args .f) (e .before .before .before .chain .result)
+  unfolding terms limit
+  fitting = told-answered (e .before .before .before .chain .ensures) (omega arith) answers
 
 cast-t16 : tie.Need-cast-t16
-unfolding terms limit
-cast-t16 c = omega (arith, c .before .before .before .before .before .before .pre .1, told-answered (c .before .before .before .chain .ensures) (omega arith) (sym (c .before .refuses .ensures) ∙ c .if1 .left) .low-degree)
+unfolding limit
+cast-t16 c = omega (arith, c .before .before .before .before .before .before .pre .0, fitting c .low-degree)
 
 cast-t17 : tie.Need-cast-t17
-unfolding terms limit
-cast-t17 c = omega (arith, told-answered (c .before .before .before .before .chain .ensures) (omega arith) (sym (c .before .before .refuses .ensures) ∙ c .before .if1 .left) .few-tries)
+unfolding limit
+cast-t17 c = omega (arith, fitting (c .before) .few-tries)
 
 cast-t18 : tie.Need-cast-t18
-unfolding terms limit
-cast-t18 c = omega (arith, told-answered (c .before .before .before .before .before .chain .ensures) (omega arith) (sym (c .before .before .before .refuses .ensures) ∙ c .before .before .if1 .left) .low-price)
+unfolding limit
+cast-t18 c = omega (arith, fitting (c .before .before) .low-price)
 
 chain-line-requires : tie.Need-chain-line-requires
 unfolding area-words most-parts terms limit
-chain-line-requires c κs =
-    let z = told-answered (c .before .before .before .before .before .before .before .chain .ensures) (omega arith) (sym (c .before .before .before .before .before .refuses .ensures) ∙ c .before .before .before .before .if1 .left) in
-    (z .few-parts, omega arith, omega arith)
+chain-line-requires c κs = (fitting (c .before .before .before .before) .few-parts, omega arith, omega arith)
 
 returns-2 : tie.Need-returns-2
-unfolding terms limit
+unfolding area-words most-parts terms limit
 returns-2 c =
-    let z = told-answered (c .before .before .before .before .before .before .before .before .before .before .chain .ensures) (omega arith) (sym (c .before .before .before .before .before .before .before .before .refuses .ensures) ∙ c .before .before .before .before .before .before .before .if1 .left) in
-    told-listed z (c .before .before .before .before .before .before .before .before .before .before .before .before .before .pre .1) (c .before .before .chain-line .ensures)
+    let e = c .before .before .before .before .before .before .before in
+    told-chained (e .before .before .before .chain .ensures) (answers e) (e .before .before .before .before .before .before .pre .0) (c .before .before .chain-line .ensures)
 
 pub accepted-line-spec : {M : Type 1} → statement M
 accepted-line-spec =

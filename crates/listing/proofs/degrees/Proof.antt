@@ -30,14 +30,17 @@ loop-holds c = (omega arith, refl, put-none _ _ _)
 
 cast-spaced : tie.Need-cast-spaced Inv-loop μ-loop
 unfolding terms limit
-cast-spaced c = omega (arith, place-degree (c .before .before .before .before .before .before .args .area .now) (c .before .before .before .loop .i) (omega arith) (omega arith) (c .degree .ensures) .1)
+cast-spaced c =
+    let l = c .before .before .before .before in
+    omega (arith, place-degree (l .before .before .before .args .area .now) (l .loop .i) (omega arith) (omega arith) (c .before .before .start .ensures) (c .degree .ensures) .1)
 
 loop-again : tie.Need-loop-again Inv-loop μ-loop
 unfolding terms limit most-field most-digits
 loop-again c =
-    let l = c .before .before .before .before .before .before .before .loop in
-    let a = c .before .before .before .before .before .before .before .before .before .before .args in
-    let e = place-degree (a .area .now) (l .i) (omega arith) (omega arith) (c .before .before .before .before .degree .ensures) .0 in
+    let d = c .before .before .before .before in
+    let l = d .before .before .before .before .loop in
+    let a = d .before .before .before .before .before .before .before .args in
+    let e = place-degree (a .area .now) (l .i) (omega arith) (omega arith) (d .before .before .start .ensures) (d .degree .ensures) .0 in
     (omega arith, c .before .before .spaced .kept .1 .0 ∙ l .inv .1, put-table (l .i) (of (a .area .now)) (l .inv .2) e (c .before .before .spaced .ensures))
 
 returns : tie.Need-returns Inv-loop μ-loop
@@ -54,7 +57,7 @@ degrees-spec =
     Inv-loop
     μ-loop
     loop-holds
-    (λ c. search needs)
+    (λ c κs. search needs)
     (λ c. search needs)
     (λ c. search needs)
     (λ c. search needs)

@@ -1,7 +1,7 @@
 use mathlib.Core.Path.{_∙_}
 use native.Mathlib.Omega.{arith}
 use borrow.Author.Tests.{lt-ltb, le-ltb}
-use Rattle.polynomial.specs.Checks.{smallest, largest, check-modulus}
+use Rattle.polynomial.specs.Moduli.{smallest, largest, check-modulus}
 use borrow.Author.Needs.{needs}
 use Rattle.polynomial.proofs.check_modulus.Statement.{statement}
 use Rattle.polynomial.proofs.check_modulus.Tie as tie

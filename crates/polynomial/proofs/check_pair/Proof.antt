@@ -14,15 +14,15 @@ returns c = stopped (c .before .before .check-two .ensures) (c .before .refuses 
 -- both degrees are below the number of coefficients
 mul-if2 : tie.Need-mul-if2
 unfolding terms limit
-mul-if2 c = let a = c .before .before .before .before .before in omega (arith, degrees-multiply _ _ (a .pre .0 .0) (a .pre .0 .1) (a .pre .1 .0) (a .pre .1 .1))
+mul-if2 c = let a = c .before .before .before .before .before in omega (arith, degrees-multiply _ _ (a .pre .0 .long) (a .pre .0 .is) (a .pre .1 .long) (a .pre .1 .is))
 
 returns-2 : tie.Need-returns-2
 unfolding check-pair limit
-returns-2 c = went-on (c .before .before .before .before .check-two .ensures) (c .before .before .before .refuses .ensures) (c .before .before .if1 .left) (above-limit _ _ (c .before .before .before .before .before .before .before .pre .0 .1) (c .before .before .before .before .before .before .before .pre .1 .1) (c .before .if2 .taken) (c .refused .ensures))
+returns-2 c = went-on (c .before .before .before .before .check-two .ensures) (c .before .before .before .refuses .ensures) (c .before .before .if1 .left) (above-limit _ _ (c .before .before .before .before .before .before .before .pre .0 .is) (c .before .before .before .before .before .before .before .pre .1 .is) (c .before .if2 .taken) (c .refused .ensures))
 
 returns-3 : tie.Need-returns-3
 unfolding check-pair limit
-returns-3 c = went-on (c .before .before .before .check-two .ensures) (c .before .before .refuses .ensures) (c .before .if1 .left) (within-limit _ _ (c .before .before .before .before .before .before .pre .0 .1) (c .before .before .before .before .before .before .pre .1 .1) (c .if2 .left))
+returns-3 c = went-on (c .before .before .before .check-two .ensures) (c .before .before .refuses .ensures) (c .before .if1 .left) (within-limit _ _ (c .before .before .before .before .before .before .pre .0 .is) (c .before .before .before .before .before .before .pre .1 .is) (c .if2 .left))
 
 pub check-pair-spec : {M : Type 1} → statement M
 check-pair-spec =

@@ -18,7 +18,7 @@ returns c = c .refused .ensures ∙ simp (← c .before .before .offending .ensu
 
 returns-2 : tie.Need-returns-2
 unfolding check-polynomial check-coefficients check-degree
-returns-2 c = c .refused2 .ensures ∙ simp (← c .before .before .before .offending .ensures, le-ltb _ _ (c .before .before .if1 .left), ← c .before .before .before .before .before .pre .1, lt-ltb _ _ (c .before .if2 .taken))
+returns-2 c = c .refused2 .ensures ∙ simp (← c .before .before .before .offending .ensures, le-ltb _ _ (c .before .before .if1 .left), ← c .before .before .before .before .before .pre .is, lt-ltb _ _ (c .before .if2 .taken))
 
 mul-if3 : tie.Need-mul-if3
 unfolding terms
@@ -30,11 +30,11 @@ shared-slice-read-if3 c = omega (arith, degree-below (c .before .before .before 
 
 returns-3 : tie.Need-returns-3
 unfolding check-polynomial check-coefficients check-degree check-leading
-returns-3 c = c .refused3 .ensures ∙ simp (← c .before .before .before .before .before .offending .ensures, le-ltb _ _ (c .before .before .before .before .if1 .left), ← c .before .before .before .before .before .before .before .pre .1, le-ltb _ _ (c .before .before .before .if2 .left), ne-eqb _ _ (c .before .if3 .taken))
+returns-3 c = c .refused3 .ensures ∙ simp (← c .before .before .before .before .before .offending .ensures, le-ltb _ _ (c .before .before .before .before .if1 .left), ← c .before .before .before .before .before .before .before .pre .is, le-ltb _ _ (c .before .before .before .if2 .left), ne-eqb _ _ (c .before .if3 .taken))
 
 returns-4 : tie.Need-returns-4
 unfolding check-polynomial check-coefficients check-degree check-leading
-returns-4 c = simp (← c .before .before .before .before .offending .ensures, le-ltb _ _ (c .before .before .before .if1 .left), ← c .before .before .before .before .before .before .pre .1, le-ltb _ _ (c .before .before .if2 .left), eq-eqb _ _ (c .if3 .left))
+returns-4 c = simp (← c .before .before .before .before .offending .ensures, le-ltb _ _ (c .before .before .before .if1 .left), ← c .before .before .before .before .before .before .pre .is, le-ltb _ _ (c .before .before .if2 .left), eq-eqb _ _ (c .if3 .left))
 
 pub check-polynomial-spec : {M : Type 1} → statement M
 check-polynomial-spec =

@@ -15,6 +15,9 @@ abbrev μ-loop : tie.MeasureT-loop
 loop-holds : tie.Need-loop-holds Inv-loop μ-loop
 loop-holds c = (omega arith, passed-none)
 
+cast-if1 : tie.Need-cast-if1 Inv-loop μ-loop
+cast-if1 c = omega (arith, c .shared-slice-known .given (c .before .before .loop .i))
+
 returns : tie.Need-returns Inv-loop μ-loop
 returns c = offending-here _ _ _ (omega arith) (c .if1 .taken) (c .before .before .before .loop .inv .1)
 
@@ -35,6 +38,7 @@ offending-spec =
     loop-holds
     (λ c. omega arith)
     (λ c. omega arith)
+    cast-if1
     returns
     (λ c. omega arith)
     (λ c. omega arith)

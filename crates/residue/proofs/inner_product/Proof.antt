@@ -29,7 +29,7 @@ loop-again c = (
 )
 
 reduced-requires : tie.Need-reduced-requires Inv-loop μ-loop
-reduced-requires c κs = (omega arith, omega arith, widened-room (omega arith) (c .before .loop .inv .2))
+reduced-requires c κs = (c .before .before .before .before .pre .0, widened-room (omega arith) (c .before .loop .inv .2))
 
 returns : tie.Need-returns Inv-loop μ-loop
 returns c =

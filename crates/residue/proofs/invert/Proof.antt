@@ -19,7 +19,7 @@ mul-less : tie.Need-mul-less Inv-loop μ-loop
 mul-less c = record { fits = product-fits (omega arith) (le-trans (div-le-self _ _) (omega arith)) }
 
 less-requires : tie.Need-less-requires Inv-loop μ-loop
-less-requires c κs = (omega arith, mod-lt _ (omega arith), omega arith)
+less-requires c κs = (search needs, omega arith, mod-lt _ (omega arith))
 
 loop-less : tie.Need-loop-less Inv-loop μ-loop
 loop-less c = mod-lt _ (omega arith)

@@ -25,7 +25,7 @@ loop-holds c = (
 )
 
 shared-slice-read-whole-2 : tie.Need-shared-slice-read-whole-2 Inv-loop μ-loop
-shared-slice-read-whole-2 c = stride-inside _ (c .before .before .before .before .before .before .pre .0 .2) (omega arith) (c .before .before .before .loop .inv .2)
+shared-slice-read-whole-2 c = stride-inside _ (c .before .before .before .before .before .before .pre .1) (omega arith) (c .before .before .before .loop .inv .2)
 
 added-requires : tie.Need-added-requires Inv-loop μ-loop
 added-requires c κs = widened-room (omega arith) (c .before .before .before .before .loop .inv .4)
@@ -37,12 +37,12 @@ loop-again c =
       omega arith,
       omega arith,
       stride-next _ _ _ (l .inv .2) (omega arith),
-      omega (arith, stride-inside (l .i - a .lo) (c .before .before .before .before .before .before .before .before .pre .0 .2) (omega arith) (l .inv .2)),
+      omega (arith, stride-inside (l .i - a .lo) (c .before .before .before .before .before .before .before .before .pre .1) (omega arith) (l .inv .2)),
       widened-more _ (omega arith) (strided-next _ _ _ _ _ _ _ (omega arith) (l .inv .2) (c .before .whole .ensures)) (c .added .ensures) (l .inv .4),
     )
 
 reduced-requires : tie.Need-reduced-requires Inv-loop μ-loop
-reduced-requires c κs = (omega arith, omega arith, widened-room (omega arith) (c .before .loop .inv .4))
+reduced-requires c κs = (c .before .before .before .before .pre .0, widened-room (omega arith) (c .before .loop .inv .4))
 
 returns : tie.Need-returns Inv-loop μ-loop
 returns c =

@@ -1,6 +1,5 @@
 use mathlib.Core.Path.{refl, sym, ap}
 use Prim.Native.Nat.{ℕ, _+_, _*_}
-use native.Mathlib.Omega.{arith}
 use lib.Dec.{lit<}
 use borrow.Author.Needs.{needs}
 use Rattle.residue.proofs.Words.{widened-one, widened-more, widened-room, widened-mod}
@@ -9,8 +8,7 @@ use Rattle.residue.proofs.two_products.Tie as tie
 
 reduced-requires : tie.Need-reduced-requires
 reduced-requires c κs = (
-  omega arith,
-  omega arith,
+  search needs,
   widened-room (lit< tt) (widened-more _ {n = 0} refl refl (c .added .ensures) (widened-one (c .before .before .whole .ensures))),
 )
 

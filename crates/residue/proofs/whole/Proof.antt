@@ -1,5 +1,4 @@
 use mathlib.Core.Path.{refl}
-use Prim.Native.Nat.{_-_}
 use native.Mathlib.Omega.{arith}
 use Rattle.residue.proofs.Sizes.{product-fits}
 use Rattle.residue.proofs.whole.Statement.{statement}

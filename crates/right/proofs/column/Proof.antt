@@ -20,13 +20,13 @@ loop-holds c = (omega arith, omega arith, column-none)
 place : (c : tie.After-inner-product-arg Inv-loop μ-loop) → c .before .before .loop .at + c .before .before .before .before .args .s < terms
 place c =
     let a = c .before .before .before .before .args in
-    omega (arith, column-place (c .before .before .loop .i) (a .n) (a .s) (a .k) (omega arith) (omega arith) (c .before .before .before .before .pre .3))
+    omega (arith, column-place (c .before .before .loop .i) (a .n) (a .s) (a .k) (omega arith) (omega arith) (c .before .before .before .before .pre .1 .room))
 
 inner-product-requires : tie.Need-inner-product-requires Inv-loop μ-loop
 unfolding limit terms
 inner-product-requires c κs =
     let p = place c in
-    (record { order = omega arith; first = omega arith; down = omega arith; second = omega arith }, (omega arith, omega arith, omega arith))
+    (c .before .before .before .before .pre .0, record { order = omega arith; first = omega arith; down = omega arith; second = omega arith; few = omega arith })
 
 add-at : tie.Need-add-at Inv-loop μ-loop
 add-at c = omega (arith, place (c .before))

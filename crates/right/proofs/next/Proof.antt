@@ -10,51 +10,50 @@ use Rattle.right.proofs.next.Tie as tie
 
 column-requires : tie.Need-column-requires
 column-requires c κs =
-    let g = c .before .before .before .before .before .pre .0 in
-    (g .3 .long, omega arith, omega arith, column-room (g .0) (c .before .smaller .ensures) (omega arith), omega arith, omega arith)
+    let p = c .before .before .before .before .before .pre in
+    (p .0 .0 .modulus, record { long = p .1 .0 .long; inside = omega arith; few = omega arith; room = column-room (p .0 .0 .degrees) (c .before .smaller .ensures) (omega arith) })
 
 add-strided-product-2 : tie.Need-add-strided-product-2
-add-strided-product-2 c = omega (arith, right-twice (c .before .before .before .before .before .before .before .before .before .pre .0 .0))
+add-strided-product-2 c = omega (arith, right-twice (c .before .before .before .before .before .before .before .before .before .pre .0 .0 .degrees))
 
 strided-product-requires : tie.Need-strided-product-requires
 unfolding limit rows
 strided-product-requires c κs =
-    let g = c .before .before .before .before .before .before .before .before .before .pre .0 in
-    let p = left-twice (g .0) in
-    let q = right-twice (g .0) in (
-      (omega arith, omega (arith, g .2 .long), column-strides (g .0) (c .before .before .before .before .before .smaller .ensures) (omega arith) (c .before .before .before .column .ensures .long ∙ g .3 .long)),
-      (omega arith, omega arith, omega arith, omega arith, omega arith),
-    )
+    let p = c .before .before .before .before .before .before .before .before .before .pre in
+    let q = left-twice (p .0 .0 .degrees) in
+    (p .0 .0 .modulus, column-strides (p .0 .0 .degrees) (c .before .before .before .before .before .smaller .ensures) (omega arith) (omega arith) (omega (arith, p .0 .1 .long)) (c .before .before .before .column .ensures .long ∙ p .1 .0 .long))
 
 sub-subtract : tie.Need-sub-subtract
-sub-subtract c = omega (arith, right-twice (c .before .before .before .before .before .before .before .before .before .before .pre .0 .0))
+sub-subtract c = omega (arith, right-twice (c .before .before .before .before .before .before .before .before .before .before .pre .0 .0 .degrees))
 
 mul-subtract : tie.Need-mul-subtract
 unfolding limit
-mul-subtract c = omega (arith, right-twice (c .before .before .before .before .before .before .before .before .before .before .pre .0 .0))
+mul-subtract c = omega (arith, right-twice (c .before .before .before .before .before .before .before .before .before .before .pre .0 .0 .degrees))
 
 shared-slice-read-subtract : tie.Need-shared-slice-read-subtract
 unfolding terms
-shared-slice-read-subtract c = omega (arith, right-twice (c .before .before .before .before .before .before .before .before .before .before .before .pre .0 .0))
+shared-slice-read-subtract c = omega (arith, right-twice (c .before .before .before .before .before .before .before .before .before .before .before .pre .0 .0 .degrees))
 
 subtract-requires : tie.Need-subtract-requires
 unfolding terms
-subtract-requires c κs = (c .before .before .before .before .before .before .before .before .before .before .before .pre .0 .1 .below _ (omega arith), rw (c .before .strided-product .ensures) (mod-lt _ (omega arith)), omega arith)
+subtract-requires c κs =
+    let a = c .before .before .before .before .before .before .before .before .before .before .before .pre .0 .0 in
+    (a .modulus, a .reduced .below _ (omega arith), rw (c .before .strided-product .ensures) (mod-lt _ (omega arith)))
 
 mul-t : tie.Need-mul-t
 unfolding limit
-mul-t c = omega (arith, right-twice (c .before .before .before .before .before .before .before .before .before .before .before .before .before .pre .0 .0))
+mul-t c = omega (arith, right-twice (c .before .before .before .before .before .before .before .before .before .before .before .before .before .pre .0 .0 .degrees))
 
 slice-write-t : tie.Need-slice-write-t
 unfolding terms
-slice-write-t c = omega (arith, right-twice (c .before .before .before .before .before .before .before .before .before .before .before .before .before .pre .0 .0))
+slice-write-t c = omega (arith, right-twice (c .before .before .before .before .before .before .before .before .before .before .before .before .before .pre .0 .0 .degrees))
 
 returns : tie.Need-returns
 unfolding terms
 returns c =
-    let g = c .before .before .before .before .before .before .before .before .before .before .before .before .before .pre .0 in
-    rows-next _ _ _ (c .before .before .before .before .before .before .before .before .before .smaller .ensures) (g .3) (c .before .before .before .before .before .before .before .column .ensures) (g .0) (omega arith) (omega arith) (omega arith)
-    (omega (arith, right-twice (g .0))) (c .before .before .before .before .before .before .before .before .before .before .before .before .before .pre .1 .3) (c .before .before .before .strided-product .ensures) (c .before .subtract .ensures) (c .multiply .ensures)
+    let p = c .before .before .before .before .before .before .before .before .before .before .before .before .before .pre in
+    rows-next _ _ _ (c .before .before .before .before .before .before .before .before .before .smaller .ensures) (p .1 .0) (c .before .before .before .before .before .before .before .column .ensures) (p .0 .0 .degrees) (omega arith) (omega arith) (omega arith)
+    (omega (arith, right-twice (p .0 .0 .degrees))) (p .0 .0 .inverse) (c .before .before .before .strided-product .ensures) (c .before .subtract .ensures) (c .multiply .ensures)
 
 pub next-spec : {M : Type 1} → statement M
 next-spec =

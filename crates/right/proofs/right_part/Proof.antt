@@ -17,7 +17,7 @@ abbrev μ-loop : tie.MeasureT-loop
 
 binomials-requires : tie.Need-binomials-requires Inv-loop μ-loop
 unfolding limit rows
-binomials-requires c κs = (omega (arith, left-twice (c .before .pre .0 .0)), omega arith, omega arith, c .before .pre .0 .2)
+binomials-requires c κs = (c .before .pre .0 .modulus, omega (arith, left-twice (c .before .pre .0 .degrees)), c .before .pre .1)
 
 loop-holds : tie.Need-loop-holds Inv-loop μ-loop
 unfolding terms limit
@@ -26,20 +26,20 @@ loop-holds c = (omega arith, omega arith, rows-none (omega arith))
 next-requires : tie.Need-next-requires Inv-loop μ-loop
 next-requires c κs =
     let p = c .before .before .before .before .before .before .pre in (
-      (p .0 .0, p .0 .1, c .before .before .before .before .binomials .ensures, c .before .before .before .loop .inv .2),
-      (omega arith, omega arith, omega arith, p .1 .1, omega arith, omega arith),
+      (p .0, c .before .before .before .before .binomials .ensures),
+      (c .before .before .before .loop .inv .2, omega arith, omega arith),
     )
 
 loop-again : tie.Need-loop-again Inv-loop μ-loop
 loop-again c = (omega arith, omega arith, c .before .next .ensures)
 
 upside-requires : tie.Need-upside-requires Inv-loop μ-loop
-upside-requires c κs = (c .before .before .loop .inv .2 .long, omega arith, omega (arith, right-twice (c .before .before .before .before .before .pre .0 .0)))
+upside-requires c κs = (c .before .before .loop .inv .2 .long, omega arith, omega (arith, right-twice (c .before .before .before .before .before .pre .0 .degrees)))
 
 returns : tie.Need-returns Inv-loop μ-loop
 returns c =
     let e : c .before .before .before .loop .k ≡ c .before .before .before .before .before .before .args .s = omega arith in
-    rows-right _ (omega arith) (c .before .before .before .before .before .before .pre .0 .0) (c .before .before .before .before .binomials .ensures) (rw e at (c .before .before .before .loop .inv .2)) (c .upside .ensures) (omega arith)
+    rows-right _ (omega arith) (c .before .before .before .before .before .before .pre .0 .degrees) (c .before .before .before .before .binomials .ensures) (rw e at (c .before .before .before .loop .inv .2)) (c .upside .ensures) (omega arith)
 
 pub right-part-spec : {M : Type 1} → statement M
 unfolding limit terms

@@ -1,0 +1,37 @@
+// The composition g(h) by Horner's rule: g's coefficients from the top, each added to h times what there is so far.
+ghost use mathlib.Core.Path.{_≡_};
+ghost use mathlib.Core.List.{[], _∷_};
+ghost use Rattle.algebra.specs.Number.{Modulus};
+ghost use Rattle.algebra.specs.Polynomial.{plus, times, reduced};
+ghost use Rattle.composition.specs.Composition.{composition, Composable, Room};
+use polynomial::Coefficients;
+use polynomial::TERMS;
+
+// One step: c + h·p, of a degree up to d.
+fn step(c: u32, h: &[u32], p: &[u32], s: usize, d: usize, m: u64) -> Coefficients
+    requires { ⌜ Modulus m × Room s d (now h) (now p) ⌝ }
+    ensures { λ q. ⌜ q ≡ reduced m (plus (c ∷ []) (times (now (h .entry)) (now (p .entry)))) ⌝ }
+{
+    let mut q = [0; TERMS];
+    q[0] = residue::two_products(h[0], p[0], c, 1, m);
+    for k in 1..d + 1 {
+        q[k] = residue::inner_product(h, p, k, 0, polynomial::smaller(k, s) + 1, m);
+    }
+    q
+}
+
+// g(h), for g that ends at x^r and h that ends at x^s; one polynomial is held at a time.
+pub fn compose(g: &[u32], h: &[u32], r: usize, s: usize, m: u64) -> Coefficients
+    requires { ⌜ Modulus m × Composable r s (now g) (now h) ⌝ }
+    ensures { λ f. ⌜ f ≡ composition m (now (g .entry)) (now (h .entry)) ⌝ }
+{
+    let mut p = [0; TERMS];
+    let mut i = r + 1;
+    let mut d = 0;
+    while i != 0 {
+        i -= 1;
+        p = step(g[i], h, &p, s, d, m);
+        d += s;
+    }
+    p
+}
