@@ -10,7 +10,7 @@ fn two_products(a: u32, x: u32, b: u32, y: u32, m: u64) -> u32 {
     )
 }
 
-/// a^(-n)·f(a·x + b) by Horner's rule, as the desk does it.
+/// a^(-n)·f(a·x + b) by Horner's rule, with two products a place: the desk composes f with the line a·x + b.
 fn changed(m: u32, f: &Polynomial, a: u32, b: u32) -> Option<Polynomial> {
     let n = crate::plain::degree(f);
     if !crate::plain::accepted(m, f) || m <= a || m <= b {

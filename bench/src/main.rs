@@ -2,6 +2,7 @@
 //! Every answer is compared first: a faster wrong answer does not count.
 
 mod change;
+mod compose;
 mod desk;
 mod listing;
 mod plain;
@@ -19,6 +20,7 @@ fn main() {
     );
     residue::run();
     split::run();
+    compose::run();
     change::run();
     listing::run();
 }

@@ -3,7 +3,7 @@ use crate::plain::{binomials, degree, split, Polynomial, TERMS};
 use crate::timing::{beside, Random};
 use std::hint::black_box;
 
-fn monic(random: &mut Random, m: u32, n: usize) -> Polynomial {
+pub fn monic(random: &mut Random, m: u32, n: usize) -> Polynomial {
     let mut f = [0; TERMS];
     for c in f.iter_mut().take(n) {
         *c = (random.next() % m as u64) as u32;
