@@ -69,7 +69,7 @@ pub record AcceptedIn (m : ℕ) (f : List ℕ) (k : ℕ) (xs ys : List ℕ) (r :
 
 -- so many records go through the program's memory at a time
 unfoldable pub most-records : ℕ
-most-records = 125
+most-records = 128
 
 -- a line for each
 unfoldable pub most-lines : ℕ

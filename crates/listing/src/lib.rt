@@ -22,8 +22,8 @@ const BEFORE: usize = 6;
 // The most bytes that a line takes: these numbers, the degrees and a newline.
 pub const LINE: usize = FIELD * (BEFORE + area::PARTS) + 1;
 
-// How many records are listed at a time.
-pub const RECORDS: usize = 125;
+// How many records are listed at a time: as many as a pipe holds.
+pub const RECORDS: usize = 128;
 
 // The most bytes that their lines take.
 pub const LINES: usize = RECORDS * LINE;
