@@ -5,7 +5,6 @@
 --   column-place                 the place that its loop writes is there
 --   column-room, column-strides  the rows that column k has, as many as r and k allow, are there
 --   rows-none, rows-next         the columns one after the other: row 0 by 01's equation, solved by the inverse of r
---   zeros                        a new list is 0 everywhere
 use mathlib.Core.Path.{_≡_, refl, sym, _∙_, ap, ap₂}
 use mathlib.Core.Logic.{⊎-elim}
 use mathlib.Core.List.{List, [], _∷_}
@@ -19,6 +18,7 @@ use Rattle.residue.specs.Residue.{inner, strided, Strides}
 use Rattle.residue.proofs.Congruent.{Congruent, from-eq, reduced, wrapped, turn, plus, times, _then_}
 use Rattle.residue.proofs.Inner.{inner-extensional, strided-extensional}
 use Rattle.polynomial.specs.Degrees.{Degrees}
+use Rattle.polynomial.proofs.Filling.{zeros}
 use Rattle.right.specs.Rows.{Before, Column, Rows}
 
 pub left-twice : {n r s : ℕ} → Degrees n r s → r + r ≤ n
@@ -137,11 +137,6 @@ solved m r u a S {d} {x} {y} pos unit de xe ye =
     let U : Congruent m (u * r) 1 = record { same = unit } in
     (from-eq w then plus S (times r (reduced ye) then from-eq v then times x U then from-eq o then reduced xe)
     then from-eq c then plus (a + (m - d)) (turn (reduced de)) then turn (wrapped t)) .same
-
-pub zeros : (n i : ℕ) → coef (replicate n zero) i ≡ 0
-zeros zero i = refl
-zeros (suc n) zero = refl
-zeros (suc n) (suc i) = zeros n i
 
 -- before the first column
 pub rows-none : {m : ℕ} {f : List ℕ} {r s : ℕ} {b : List ℕ} → 0 < m → Rows m f r s b 1 (replicate terms 0)

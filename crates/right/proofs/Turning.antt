@@ -15,7 +15,7 @@ use lib.ListN.{length, set, length-set, replicate, length-replicate}
 use lib.Seq.{getD-set-same, getD-set-other}
 use Rattle.algebra.specs.Polynomial.{coef, limit, terms}
 use Rattle.right.specs.Rows.{Upside}
-use Rattle.right.proofs.Columns.{zeros}
+use Rattle.polynomial.proofs.Filling.{zeros}
 
 pub record Turned (s k : ℕ) (a h : List ℕ) : Type 0 where
   pub long : length h ≡ terms
