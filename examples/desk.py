@@ -203,6 +203,7 @@ def undo(m, change):
 def chain(m, f, area=None):
     """The parts of f's complete chain, left to right, its tries and its price.
 
+    The price is the multiplications that the parts cost: n - 1 for one of degree n.
     A list of words given as the area is written as 01 says, after a refusal too.
     """
     words = _area([0] * WORDS if area is None else area)

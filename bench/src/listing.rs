@@ -70,7 +70,7 @@ fn line(record: &[u8], number: usize, table: &[u64], out: &mut Vec<u8>) {
         out,
         "{number} 0 {n} {} {tries} {}",
         parts.len(),
-        parts.iter().sum::<usize>()
+        parts.iter().map(|d| d - 1).sum::<usize>()
     )
     .unwrap();
     for d in parts {

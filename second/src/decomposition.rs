@@ -73,10 +73,11 @@ pub struct Chain {
 }
 
 impl Chain {
-    /// "The price of a chain is the sum over its parts", that of a polynomial
-    /// its degree.
+    /// "The price of a chain is the sum over its parts"; request No. 1: "A
+    /// monic polynomial of degree n costs n - 1 multiplications."
     pub fn price(&self) -> usize {
-        self.parts.iter().filter_map(Polynomial::degree).sum()
+        let degrees = self.parts.iter().filter_map(Polynomial::degree);
+        degrees.map(|n| n - 1).sum()
     }
 }
 

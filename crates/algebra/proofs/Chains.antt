@@ -5,6 +5,7 @@
 --   chain-part, chain-normal              what each part is; all but the leftmost have constant 0
 --   chain-unsplit                         no part splits further
 --   chain-product, chain-length           the degrees multiply to n; so many parts as 2^parts <= n allows
+--   price-parts                           the price and the number of parts add up to the sum of the degrees
 --   carried-unique                        carrying a change gives one answer
 --   chain-changed, chains-changed         the chain of the changed f is the carried one, with the same degrees, tries and price
 use mathlib.Core.Path.{_≡_, refl, sym, ap, ap₂, subst, _∙_}
@@ -14,11 +15,12 @@ use native.Mathlib.Nat as N
 use native.Mathlib.Omega.{arith}
 use native.Mathlib.Decide.{decLt}
 use lib.ListN.{length}
-use Rattle.algebra.specs.Polynomial.{value, Same, Monic, Reduced, terms}
-use Rattle.algebra.specs.Number.{Invertible}
+use Rattle.algebra.specs.Polynomial.{value, degree, Same, Monic, Reduced, terms}
+use Rattle.algebra.specs.Number.{sum, Invertible}
 use Rattle.algebra.specs.Pair.{Pair, Normal, NormalPair, NoPair, SplitsRight, Unsplit}
 use Rattle.algebra.specs.Change.{Changed, ChangedRight}
 use Rattle.algebra.specs.Chain.{Part, Chain, whole, step, tested, composed, Carried, leftmost, hand-on, price, cost, part, degrees, product}
+use Rattle.algebra.proofs.Numbers.{sum-none, sum-first}
 use Rattle.algebra.proofs.Polynomials.{same-refl, same-sym, _⨾_, after-same, after-assoc, x-after, monic-same}
 use Rattle.algebra.proofs.Coefficients.{after-monic}
 use Rattle.algebra.proofs.Reduction.{monic-degree, degree-monic, reduced-equal}
@@ -145,6 +147,12 @@ carried-unique {m} two i (hand-on {s = s} {a = a} {b = b} {h = h} {parts = parts
     let e = monic-degree two mon′ mon in
     ap₂ _∷_ (reduced-equal red red′ (changed-right-unique (omega arith) i c (subst (λ (k : ℕ). ChangedRight m k a b h h″) e c′)))
     (carried-unique two (invertible-pow i s) k (subst (λ (j : ℕ). Carried m (a ^ j) (value h b) parts y) e k′))
+
+-- a part costs one less than its degree, so the price and the number of parts add up to the sum of the degrees
+pub price-parts : {m : ℕ} (parts : List (List ℕ)) → ((i : ℕ) → i < length parts → Part m (part parts i)) → price parts + length parts ≡ sum (length parts) (λ i. degree (part parts i))
+unfolding price cost
+price-parts [] p = sym (sum-none _)
+price-parts (h ∷ parts) p = omega (arith, p 0 (omega arith) .two, price-parts parts (λ i l. p (suc i) (omega arith)), sum-first (length parts) (λ i. degree (part (h ∷ parts) i)))
 
 -- the price is told by the degrees
 price-degrees : (x y : List (List ℕ)) → degrees x ≡ degrees y → price x ≡ price y

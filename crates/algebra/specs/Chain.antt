@@ -8,7 +8,7 @@
 --   Carried m a b ps ps′     the change (a, b) carried along the parts from the right
 use mathlib.Core.Path.{_≡_}
 use mathlib.Core.List.{List, [], _∷_}
-use Prim.Native.Nat.{ℕ, zero, suc, _+_, _*_, _^_, _%_, _/_, _≤_, _<_}
+use Prim.Native.Nat.{ℕ, zero, suc, _+_, _*_, _-_, _^_, _%_, _/_, _≤_, _<_}
 use lib.ListN.{getD}
 use Rattle.algebra.specs.Polynomial.{after, value, degree, Monic, Reduced}
 use Rattle.algebra.specs.Pair.{NormalPair, SplitsRight}
@@ -59,9 +59,9 @@ unfoldable pub product : List ℕ → ℕ
 product [] = 1
 product (d ∷ l) = d * product l
 
--- the price of a polynomial is its degree
+-- a monic polynomial of degree n costs n - 1 multiplications: its leading coefficient is 1, so the first is never built
 unfoldable pub cost : List ℕ → ℕ
-cost p = degree p
+cost p = degree p - 1
 
 -- the price of a chain is the sum over its parts
 unfoldable pub price : List (List ℕ) → ℕ

@@ -54,13 +54,13 @@ module _ {m : ℕ} where
       go (no h) = omega arith
 
   -- f in the first place
-  pub chained-whole : {n t : ℕ} {f : List ℕ} (xs : List ℕ) → 2 ≤ m → Monic m n f → Reduced m f → NoSplit m n f t → ChainedIn m n f xs (put-at xs 0 f) 1 t n
-  unfolding price cost laid
-  chained-whole {n} {t} {f} xs two mon red z = record {
+  pub chained-whole : {n t c : ℕ} {f : List ℕ} (xs : List ℕ) → Monic m n f → Reduced m f → NoSplit m n f t → c ≡ cost f → ChainedIn m n f xs (put-at xs 0 f) 1 t c
+  unfolding price laid
+  chained-whole {f = f} xs mon red z e = record {
     parts = f ∷ [];
     chain = rw (z .tries) (whole mon red (z .none));
     count-is = refl;
-    cost-is = omega (arith, degree-monic two red mon);
+    cost-is = omega (arith, e);
     area = ap (λ (k : ℕ). put-at (drop k xs) 0 f) (sym (N.zero-mul terms)) ∙ put-next xs f refl laid-none;
   }
 
@@ -79,13 +79,13 @@ module _ {m : ℕ} where
       next-place two l = omega (arith, q .count-is, parts-within two l (split-chain (q .chain)))
 
       -- the right part goes there
-      pub chained-more : 2 ≤ m → ChainedIn m n f xs (put-at ys k h) (k + 1) (t + u) (c + s)
-      unfolding price cost
-      chained-more two = record {
+      pub chained-more : {d : ℕ} → d ≡ cost h → ChainedIn m n f xs (put-at ys k h) (k + 1) (t + u) (c + d)
+      unfolding price
+      chained-more e = record {
         parts = h ∷ q .parts;
         chain = split-chain (q .chain);
         count-is = omega (arith, q .count-is);
-        cost-is = omega (arith, q .cost-is, degree-monic two (z .pair .reduced-right) (z .pair .pair .right));
+        cost-is = omega (arith, q .cost-is, e);
         area = ap (λ (l : List ℕ). put-at l k h) (q .area) ∙ put-next xs h (sym (q .count-is)) (chain-full (q .chain)) ∙ ap (λ (n : ℕ). laid (h ∷ q .parts) ++ drop (n * terms) xs) (sym (add-one k));
       }
 

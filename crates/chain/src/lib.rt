@@ -1,8 +1,11 @@
 // The chain: the parts that f composes of, none of which splits further, in a lent area.
 ghost use mathlib.Core.Path.{_≡_};
-ghost use Prim.Native.Nat.{_≤_};
+ghost use mathlib.Core.List.{List};
+ghost use Prim.Native.Nat.{ℕ, _≤_};
 ghost use lib.ListN.{length};
 ghost use Rattle.algebra.specs.Number.{Modulus};
+ghost use Rattle.algebra.specs.Polynomial.{degree};
+ghost use Rattle.algebra.specs.Chain.{cost as cost-of};
 ghost use Rattle.polynomial.specs.Moduli.{modulus};
 ghost use Rattle.area.specs.Area.{area-words};
 ghost use Rattle.chain.specs.Chaining.{ChainAsked, Searched, ChainedIn, Shares, unchained as unchained-of, ChainOf};
@@ -72,6 +75,14 @@ struct Counted {
     price: usize,
 }
 
+// The Price rule: what a monic polynomial of degree n costs.
+fn cost(n: usize) -> usize
+    requires { ⌜ 1 ≤ n ⌝ }
+    ensures { λ c. ⌜ ((p : List ℕ) → degree p ≡ n → c ≡ cost-of p) ⌝ }
+{
+    n - 1
+}
+
 // The parts of f from the first place on: those of the left part first, then the right part in the next place.
 fn parts(f: Coefficients, n: usize, area: &mut [u32], table: &[u64; ENTRIES], m: u64) -> Counted
     requires { ⌜ ChainAsked m n f (now table) × (area-words ≤ length (now area)) ⌝ }
@@ -83,7 +94,7 @@ fn parts(f: Coefficients, n: usize, area: &mut [u32], table: &[u64; ENTRIES], m:
         return Counted {
             parts: 1,
             tries: a.tries,
-            price: n,
+            price: cost(n),
         };
     }
     let s = a.at;
@@ -93,7 +104,7 @@ fn parts(f: Coefficients, n: usize, area: &mut [u32], table: &[u64; ENTRIES], m:
     area::put(area, c.parts, &right);
     let count = c.parts + 1;
     let tries = a.tries + c.tries;
-    let price = c.price + s;
+    let price = c.price + cost(s);
     Counted {
         parts: count,
         tries,

@@ -231,7 +231,8 @@ pub fn any_area(short: bool, random: &mut Random) -> Vec<u32> {
     (0..length).map(word).collect()
 }
 
-// The worked cases. Their answers are written down from 01 and not computed.
+// The worked cases. Their answers are written down from 01, the prices as
+// request No. 1 mends them, and not computed.
 
 fn area_of(length: usize) -> Vec<u32> {
     vec![0xDEAD_BEEF; length]
@@ -294,7 +295,7 @@ fn case_six_parts() -> Worked<ChainIn, Chained> {
             refused: Refused::ANSWERED,
             parts: 6,
             tries: 5,
-            price: 12,
+            price: 6,
             area: filled(&area, &[(); 6].map(|_| square.clone())),
         },
         input: ChainIn {
@@ -309,30 +310,30 @@ fn worked_cases() -> Vec<Worked<ChainIn, Chained>> {
     let x_plus_1: Coefficients = &[1, 1];
     let (top, too_high) = (2_147_483_647, 2_147_483_648);
     vec![
-        case("A", worked::A, &[&[10, 3, 3, 1], &[0, 1, 1]], (1, 5)),
-        case("B", worked::B, &[&[96, 1, 1], &[0, 3, 0, 1]], (2, 5)),
-        case("D", worked::D, &[&[0, 0, 0, 1], &[0, 0, 1, 1]], (1, 6)),
-        case("E", worked::E, &[square, &[0, 1, 1], &[0, 3, 0, 1]], (3, 7)),
-        case("F", worked::F, &[&[1, 0, 1], square], (1, 4)),
+        case("A", worked::A, &[&[10, 3, 3, 1], &[0, 1, 1]], (1, 3)),
+        case("B", worked::B, &[&[96, 1, 1], &[0, 3, 0, 1]], (2, 3)),
+        case("D", worked::D, &[&[0, 0, 0, 1], &[0, 0, 1, 1]], (1, 4)),
+        case("E", worked::E, &[square, &[0, 1, 1], &[0, 3, 0, 1]], (3, 4)),
+        case("F", worked::F, &[&[1, 0, 1], square], (1, 2)),
         case(
             "F, changed",
             worked::F_CHANGED,
             &[&[2, 2, 1], &[0, 2, 1]],
-            (1, 4),
+            (1, 2),
         ),
-        case("G", worked::G, &[&[0, 1, 1], square], (1, 4)),
+        case("G", worked::G, &[&[0, 1, 1], square], (1, 2)),
         case(
             "G, changed",
             worked::G_CHANGED,
             &[&[0, 4, 1], square],
-            (1, 4),
+            (1, 2),
         ),
         case_refused("H", worked::H, Refused::plain(5)),
         case_refused("J", worked::J, Refused::plain(5)),
         case_refused("K, m 1", (1, square), Refused::plain(1)),
         case_refused("K, m 2147483648", (too_high, square), Refused::plain(1)),
-        case("K, m 2", (2, &[0, 0, 0, 1]), &[&[0, 0, 0, 1]], (0, 3)),
-        case("K, m 2147483647", (top, square), &[square], (0, 2)),
+        case("K, m 2", (2, &[0, 0, 0, 1]), &[&[0, 0, 0, 1]], (0, 2)),
+        case("K, m 2147483647", (top, square), &[square], (0, 1)),
         case_refused("L, x + 1", (101, x_plus_1), Refused::about(3, FIRST)),
         // The readings of 01, point 4.
         case_refused("x^2 + x + 1", (2, &[1, 1, 1]), Refused::plain(5)),

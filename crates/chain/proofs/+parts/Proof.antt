@@ -1,3 +1,4 @@
+use mathlib.Core.Path.{refl}
 use Prim.Native.Nat.{ℕ, _<_}
 use native.Mathlib.Omega.{arith}
 use borrow.Author.Needs.{needs}
@@ -5,6 +6,7 @@ use borrow.Author.Tests.{not-true, not-false}
 use borrow.Fn.Kinds.{In}
 use borrow.Fn.PlainCycle.{Measures, is, falls, and}
 use Rattle.algebra.specs.Polynomial.{terms, limit}
+use Rattle.algebra.proofs.Reduction.{degree-monic}
 use Rattle.area.specs.Area.{most-parts, area-words}
 use Rattle.chain.proofs.Rounds.{left-coprime}
 use Rattle.chain.proofs.Placing.{chained-whole, chained-more, chained-within, next-place, left-less}
@@ -12,6 +14,7 @@ use Rattle.chain.proofs.parts.Reads as parts
 use Rattle.chain.proofs.parts.Kinds as parts-kinds
 use Rattle.chain.proofs.+parts.Lts-parts as parts-lts
 use Rattle.area.proofs.put.Reads as put-reads
+use Rattle.chain.proofs.cost.Reads as cost-reads
 use Rattle.chain.proofs.first_split.Reads as first-split-reads
 use Rattle.chain.proofs.+parts.{statement}
 use Rattle.chain.proofs.+parts.Tie.{close}
@@ -27,14 +30,14 @@ abbrev parts-below : ℕ → In 2 parts-kinds.ps
 parts-below t = and 2 parts-kinds.ps (falls 2 parts-kinds.ps _<_ μ-parts t) parts.Pre
 
 abbrev parts-claims : ℕ → parts-lts.Claims
-parts-claims t = (first-split-reads.Asked, first-split-reads.Learnt, put-reads.Asked, put-reads.Learnt, parts-below t, parts.Post)
+parts-claims t = (first-split-reads.Asked, first-split-reads.Learnt, put-reads.Asked, put-reads.Learnt, cost-reads.Asked, cost-reads.Learnt, parts-below t, parts.Post)
 
 -- f does not split
 parts-returns : (t : ℕ) → parts-lts.Need-returns (parts-claims t) (parts-at t) parts.Post
 parts-returns t c =
-    let e = c .before .before .before .before .before in
-    let p = e .before .before .before .before .pre .1 in
-    rw (c .before .before .put .ensures) (chained-whole _ (p .0 .modulus .above-one) (p .0 .whole .monic) (p .0 .whole .reduced) (e .before .before .first-split .ensures .no (not-true _ (e .if1 .taken))))
+    let e = c .before .before .before .before .before .before in
+    let w = e .before .before .before .before .pre .1 .0 in
+    rw (c .before .before .before .put .ensures) (chained-whole _ (w .whole .monic) (w .whole .reduced) (e .before .before .first-split .ensures .no (not-true _ (e .if1 .taken))) (c .cost .ensures _ (degree-monic (w .modulus .above-one) (w .whole .reduced) (w .whole .monic))))
 
 -- a right degree is not 0
 parts-div-parts : (t : ℕ) → parts-lts.Need-div-parts (parts-claims t) (parts-at t) parts.Post
@@ -85,23 +88,31 @@ parts-add-tries t c =
     let e = c .before .before .before .before .before .before .before .before .before .before .before .before .before .before in
     let p = e .before .before .before .before .pre .1 in
     let z = e .before .before .first-split .ensures .yes (not-false _ (e .if1 .left)) in
-    omega (arith, p .0 .whole .within, chained-within (p .0 .modulus .above-one) (chained-more z (c .before .before .before .before .before .before .before .before .before .before .parts .ensures) (p .0 .modulus .above-one)) .0)
+    omega (arith, p .0 .whole .within, chained-within (p .0 .modulus .above-one) (chained-more z (c .before .before .before .before .before .before .before .before .before .before .parts .ensures) refl) .0)
+
+parts-cost-requires-2 : (t : ℕ) → parts-lts.Need-cost-requires-2 (parts-claims t) (parts-at t) parts.Post
+parts-cost-requires-2 t c κs =
+    let e = c .before .before .before .before .before .before .before .before .before .before .before .before .before .before in
+    let z = e .before .before .first-split .ensures .yes (not-false _ (e .if1 .left)) in
+    omega (arith, z .two-right)
 
 parts-add-price : (t : ℕ) → parts-lts.Need-add-price (parts-claims t) (parts-at t) parts.Post
 unfolding limit
 parts-add-price t c =
-    let e = c .before .before .before .before .before .before .before .before .before .before .before .before .before .before .before in
+    let e = c .before .before .before .before .before .before .before .before .before .before .before .before .before .before .before .before in
     let p = e .before .before .before .before .pre .1 in
     let z = e .before .before .first-split .ensures .yes (not-false _ (e .if1 .left)) in
-    omega (arith, p .0 .whole .within, chained-within (p .0 .modulus .above-one) (chained-more z (c .before .before .before .before .before .before .before .before .before .before .before .parts .ensures) (p .0 .modulus .above-one)) .1)
+    let d = c .before .cost2 .ensures _ (degree-monic (p .0 .modulus .above-one) (z .pair .reduced-right) (z .pair .pair .right)) in
+    omega (arith, p .0 .whole .within, chained-within (p .0 .modulus .above-one) (chained-more z (c .before .before .before .before .before .before .before .before .before .before .before .before .parts .ensures) d) .1)
 
 -- the parts of the left part, and the right part
 parts-returns-2 : (t : ℕ) → parts-lts.Need-returns-2 (parts-claims t) (parts-at t) parts.Post
 parts-returns-2 t c =
-    let e = c .before .before .before .before .before .before .before .before .before .before .before .before .before .before .before in
+    let e = c .before .before .before .before .before .before .before .before .before .before .before .before .before .before .before .before in
     let p = e .before .before .before .before .pre .1 in
     let z = e .before .before .first-split .ensures .yes (not-false _ (e .if1 .left)) in
-    rw (c .before .before .before .before .before .before .put2 .ensures) (chained-more z (c .before .before .before .before .before .before .before .before .before .before .before .parts .ensures) (p .0 .modulus .above-one))
+    let d = c .before .cost2 .ensures _ (degree-monic (p .0 .modulus .above-one) (z .pair .reduced-right) (z .pair .pair .right)) in
+    rw (c .before .before .before .before .before .before .before .put2 .ensures) (chained-more z (c .before .before .before .before .before .before .before .before .before .before .before .before .parts .ensures) d)
 
 pub +parts-spec : {M : Type 1} → statement M
 unfolding terms limit most-parts area-words
@@ -115,6 +126,7 @@ unfolding terms limit most-parts area-words
     (λ c κs. search needs)
     (λ c. search needs)
     (λ c κs. search needs)
+    (λ c κs. search needs)
     (λ c. search needs)
     (parts-returns t)
     (parts-div-parts t)
@@ -123,6 +135,7 @@ unfolding terms limit most-parts area-words
     (parts-put-requires-2 t)
     (parts-add-count t)
     (parts-add-tries t)
+    (parts-cost-requires-2 t)
     (parts-add-price t)
     (λ c. search needs)
     (parts-returns-2 t)
