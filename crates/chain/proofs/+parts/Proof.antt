@@ -46,6 +46,12 @@ parts-div-parts t c =
     let z = e .before .before .first-split .ensures .yes (not-false _ (e .if1 .left)) in
     omega (arith, z .two-right)
 
+parts-cost-requires-2 : (t : ℕ) → parts-lts.Need-cost-requires-2 (parts-claims t) (parts-at t) parts.Post
+parts-cost-requires-2 t c κs =
+    let e = c .before .before .before .before .before .before .before .before .before .before .before .before .before .before in
+    let z = e .before .before .first-split .ensures .yes (not-false _ (e .if1 .left)) in
+    omega (arith, z .two-right)
+
 parts-parts-requires : (t : ℕ) → parts-lts.Need-parts-requires (parts-claims t) (parts-at t) parts.Post
 parts-parts-requires t c κs =
     let e = c .before .before .before in
@@ -89,12 +95,6 @@ parts-add-tries t c =
     let p = e .before .before .before .before .pre .1 in
     let z = e .before .before .first-split .ensures .yes (not-false _ (e .if1 .left)) in
     omega (arith, p .0 .whole .within, chained-within (p .0 .modulus .above-one) (chained-more z (c .before .before .before .before .before .before .before .before .before .before .parts .ensures) refl) .0)
-
-parts-cost-requires-2 : (t : ℕ) → parts-lts.Need-cost-requires-2 (parts-claims t) (parts-at t) parts.Post
-parts-cost-requires-2 t c κs =
-    let e = c .before .before .before .before .before .before .before .before .before .before .before .before .before .before in
-    let z = e .before .before .first-split .ensures .yes (not-false _ (e .if1 .left)) in
-    omega (arith, z .two-right)
 
 parts-add-price : (t : ℕ) → parts-lts.Need-add-price (parts-claims t) (parts-at t) parts.Post
 unfolding limit
