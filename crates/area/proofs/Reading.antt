@@ -2,9 +2,12 @@
 --
 --   handed-out xs k         the parts 0 to k - 1 of xs as they are handed out, listed from the right
 --   Fills p, part-fills     p fills a place and is not all zero; so does every part of a chain
+--   zero-at, zeros          every word of what is all zero; a list of zeros is all zero
+--   part-full, part-empty   a part that is handed out, and one that is not, by the words of its place
 --   place-after             the words of place k, after those of the places before it
 --   fills-full              parts that fill their places, one after the other
 --   read-back               the parts that were written are handed out
+--   written-long            an area is as long as it was
 --   read-past               and after the last of them nothing
 use mathlib.Core.Path.{_≡_, refl, sym, ap, ap₂, _∙_}
 use mathlib.Core.Bool.{Bool, true, false, _&&_}
@@ -41,7 +44,8 @@ both : (s t : Bool) → (s && t) ≡ true → (s ≡ true) × (t ≡ true)
 both true t h = (refl, h)
 both false t h = (h, cc)
 
-zero-at : (p : List ℕ) → all-zero p ≡ true → (i : ℕ) → coef p i ≡ 0
+-- every word of it is zero
+pub zero-at : (p : List ℕ) → all-zero p ≡ true → (i : ℕ) → coef p i ≡ 0
 unfolding all-zero
 zero-at [] e i = refl
 zero-at (x ∷ p) e zero = eqb-true x 0 (both (eqb x 0) (all-zero p) e .0)
@@ -55,7 +59,7 @@ part-fills {m} {p} two x = record { long = x .reduced .long; some = go (all-zero
     go false e = e
     go true e = let z = sym (N.zero-mod m) ∙ ap (λ (c : ℕ). c % m) (sym (zero-at p e (degree p))) ∙ x .monic .top ∙ N.mod-eq-of-lt two in absurd (omega arith)
 
-zeros : (n : ℕ) → all-zero (replicate n 0) ≡ true
+pub zeros : (n : ℕ) → all-zero (replicate n 0) ≡ true
 unfolding all-zero
 zeros zero = refl
 zeros (suc n) = zeros n
@@ -65,11 +69,11 @@ pub place-after : (a p rest : List ℕ) (k : ℕ) → length a ≡ start k → l
 place-after a p rest k la lp = ap (take terms) (drop-at a (p ++ rest) (start k) la) ∙ take-at p rest terms lp
 
 module _ (xs : List ℕ) (i : ℕ) (h : i < most-parts) (l : area-words ≤ length xs) {p : List ℕ} (e : place xs i ≡ p) where
-  part-full : all-zero p ≡ false → part-of xs i ≡ p
+  pub part-full : all-zero p ≡ false → part-of xs i ≡ p
   unfolding part-of
   part-full z = simp (lt-ltb _ _ h, le-leb _ _ l, e, z)
 
-  part-empty : all-zero p ≡ true → part-of xs i ≡ []
+  pub part-empty : all-zero p ≡ true → part-of xs i ≡ []
   unfolding part-of
   part-empty z = simp (lt-ltb _ _ h, le-leb _ _ l, e, z)
 
@@ -110,7 +114,7 @@ module _ (xs : List ℕ) (parts : List (List ℕ)) (f : EachFills parts) (most :
   unfolding area-words
   within = omega (arith, fills-full parts f .long, N.mul-le-mul-right terms most)
 
-  written-long : length (written xs parts) ≡ length xs
+  pub written-long : length (written xs parts) ≡ length xs
   unfolding written
   written-long = simp (length-append, length-drop, cleared-long xs room) (omega (arith, within))
 

@@ -54,7 +54,8 @@ pub fn clear(area: &mut [u32])
     }
 }
 
-fn is_zero(p: &[u32]) -> bool
+// Whether every word is zero.
+pub fn is_zero(p: &[u32]) -> bool
     ensures { λ b. ⌜ b ≡ all-zero (now (p .entry)) ⌝ }
 {
     let mut k = 0;

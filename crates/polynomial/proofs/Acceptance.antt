@@ -2,6 +2,7 @@
 --
 --   coefficients-first          No. 2 comes before 3 and 4
 --   two-after-one               the checks of two polynomials are those of the first, then 2, 3, 4 for the second
+--   accepted-polynomial, polynomial-accepted     what passes 2, 3, 4, whichever it is called, is accepted, and what is accepted passes
 --   accepted-one, one-accepted  what passes the checks of one polynomial is accepted, and what is accepted passes them
 --   accepted-two, two-accepted  the same for two
 --   degrees-multiply, above-limit, within-limit     the composed degree, and No. 10
@@ -65,7 +66,8 @@ accepted-modulus {m} h =
 pub accepted-above : {m : ℕ} {f : List ℕ} → Accepted m f → 1 < m
 accepted-above a = accepted-modulus (a .modulus) .above-one
 
-accepted-polynomial : (c : Concerns) {m : ℕ} {f : List ℕ} → length f ≡ terms → check-modulus m ≡ Answered → check-polynomial c m f ≡ Answered → Accepted m f
+-- 2, 3, 4 of a polynomial, whichever it is called: what passes is accepted
+pub accepted-polynomial : (c : Concerns) {m : ℕ} {f : List ℕ} → length f ≡ terms → check-modulus m ≡ Answered → check-polynomial c m f ≡ Answered → Accepted m f
 unfolding check-polynomial check-coefficients check-degree check-leading
 accepted-polynomial c {m} {f} long o h =
     let (two, three-four) = then-both (check-coefficients c m f) _ h in
@@ -79,7 +81,8 @@ accepted-polynomial c {m} {f} long o h =
       two = ltb-false _ _ (refuse-answered _ _ _ three);
     }
 
-polynomial-accepted : (c : Concerns) {m : ℕ} {f : List ℕ} → Accepted m f → check-polynomial c m f ≡ Answered
+-- and what is accepted passes
+pub polynomial-accepted : (c : Concerns) {m : ℕ} {f : List ℕ} → Accepted m f → check-polynomial c m f ≡ Answered
 unfolding terms check-polynomial check-coefficients check-degree check-leading
 polynomial-accepted c {m} {f} a =
     let w = accepted-modulus (a .modulus) in

@@ -28,7 +28,7 @@ fn wide(b: u8) -> u32
 }
 
 // Word i, low byte first.
-fn word(bytes: &[u8], i: usize) -> u32
+pub fn word(bytes: &[u8], i: usize) -> u32
     requires { ⌜ 4 * i + 4 ≤ length (now bytes) ⌝ }
     ensures { λ r. ⌜ r ≡ word-of (now (bytes .entry)) i ⌝ }
 {
@@ -38,7 +38,7 @@ fn word(bytes: &[u8], i: usize) -> u32
 }
 
 // Words 1 to TERMS.
-fn coefficients(bytes: &[u8]) -> Coefficients
+pub fn coefficients(bytes: &[u8]) -> Coefficients
     requires { ⌜ record-bytes ≤ length (now bytes) ⌝ }
     ensures { λ r. ⌜ r ≡ coefficients-of (now (bytes .entry)) ⌝ }
 {

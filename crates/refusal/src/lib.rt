@@ -2,14 +2,15 @@
 ghost use mathlib.Core.Path.{_≡_};
 ghost use Rattle.refusal.specs.Refusal.{is-refused, refusal, number as number-of, polynomial as polynomial-of, power as power-of};
 
-// Which polynomial a refusal concerns.
+// Which polynomial a refusal concerns: by its role, or by its place on a sheet, counted from 0.
 pub enum Concerns {
     Neither,
     First,
     Second,
+    Place(u8),
 }
 
-// Why, in the order of 01's table, Nos. 1 to 11. No. 2 carries the lowest offending power of x.
+// Why, in the order of 01's table, Nos. 1 to 11, then those of 02. No. 2 carries the lowest offending power of x.
 pub enum Reason {
     Modulus,
     Coefficient(u32),
@@ -22,6 +23,7 @@ pub enum Reason {
     Short,
     Limit,
     Area,
+    Sheet,
 }
 
 pub struct Refusal {
@@ -68,10 +70,11 @@ pub fn number(reason: Reason) -> u32
         Reason::Short => 9,
         Reason::Limit => 10,
         Reason::Area => 11,
+        Reason::Sheet => 12,
     }
 }
 
-// Which polynomial, as a number: 0 neither, 1 the first, 2 the second.
+// Which polynomial, as a number: 0 neither, 1 the first, 2 the second, 16 + i the one in place i.
 pub fn polynomial(concerns: Concerns) -> u32
     ensures { λ r. ⌜ r ≡ polynomial-of concerns ⌝ }
 {
@@ -79,6 +82,7 @@ pub fn polynomial(concerns: Concerns) -> u32
         Concerns::Neither => 0,
         Concerns::First => 1,
         Concerns::Second => 2,
+        Concerns::Place(i) => 16 + i as u32,
     }
 }
 
@@ -98,5 +102,6 @@ pub fn power(reason: Reason) -> u32
         Reason::Short => 0,
         Reason::Limit => 0,
         Reason::Area => 0,
+        Reason::Sheet => 0,
     }
 }

@@ -1,0 +1,11 @@
+pub mod Zeros
+pub mod Joining
+pub mod Words
+pub mod Handing
+pub mod Checking
+pub mod Composing
+pub mod Taking
+pub mod Answering
+pub mod Trips
+pub mod Laid
+pub mod Promises

@@ -1,0 +1,215 @@
+-- The promises of chain sheets.
+--
+--   write-determined, read-determined     two answers to one call are equal, and so is every byte or word that they wrote
+--   read-composes           the reader's polynomial is the composition of its parts modulo m, reduced; they are parts, in the first places
+--   write-read              written and read: the same modulus and the same area, for every area that the writer accepts
+--   parts-written           any valid parts are accepted, whether or not they split further, whatever their constants
+--   parts-read              and read again they give the area, and what they compose to
+--   chain-written           so is the area of a chain
+--   chain-read              and read again it gives the area and the f that it came from
+--   read-write              an accepted sheet, read and written: the same bytes
+--   read-back               written over itself, it does not change
+use mathlib.Core.Path.{_≡_, refl, sym, ap, ap₂, subst, _∙_}
+use mathlib.Core.List.{List, _++_}
+use Prim.Native.Nat.{ℕ, _^_, _≤_, _<_}
+use native.Mathlib.Omega.{arith}
+use lib.ListN.{length, take, drop, take-append-drop, length-append}
+use Rattle.algebra.specs.Polynomial.{limit, terms, reduced, Same, Reduced}
+use Rattle.algebra.specs.Chain.{composed, degrees, product}
+use Rattle.algebra.proofs.Polynomials.{same-sym}
+use Rattle.algebra.proofs.Reduction.{reduced-reduced}
+use Rattle.refusal.specs.declared.Outcome.{Outcome}
+use Rattle.refusal.specs.declared.Outcome.the-variants.{Answered}
+use Rattle.refusal.proofs.Outcomes.{never, then-both}
+use Rattle.polynomial.specs.Moduli.{modulus, check-modulus}
+use Rattle.polynomial.proofs.Acceptance.{accepted-modulus}
+use Rattle.area.specs.Area.{most-parts, area-words, place, written}
+use Rattle.record.specs.Record.{word, record-bytes}
+use Rattle.chain.specs.declared.Chained.{Chained}
+use Rattle.chain.specs.Chaining.{ChainOf}
+use Rattle.chain.proofs.Promises.{chain-complete}
+use Rattle.sheet.specs.Sheet.{sheet-bytes, record-at, used, recorded, sheet-of, held, area-of, parts-in}
+use Rattle.sheet.specs.Checks.{check-room, check-sheet, check-area, check-writer}
+use Rattle.sheet.specs.Answers.{unread, ReadsSheet, WritesSheet}
+use Rattle.sheet.specs.Answers as of
+use Rattle.sheet.specs.Steps.{Parted}
+use Rattle.sheet.specs.declared.Contents.{Contents}
+use Rattle.sheet.proofs.Joining.{joined-ext, joined-length, pieces}
+use Rattle.sheet.proofs.Checking.{parts-ext}
+use Rattle.sheet.proofs.Words.{Bytes, recorded-long}
+use Rattle.sheet.proofs.Composing.{composed-same}
+use Rattle.sheet.proofs.Taking.{area-long, place-taken, used-same, records-parted, sheet-modulus, parted-ext}
+use Rattle.sheet.proofs.Answering.{room, roomy, sheet-passes, product-within}
+use Rattle.sheet.proofs.Trips.{FirstOnes, order-exact, written-sheet, written-held, written-modulus, taken-area, taken-written}
+use Rattle.sheet.proofs.Laid.{Parts, laid-room, laid-passes, laid-composition, chain-parts}
+
+-- the answer and every byte of the sheet are determined
+pub write-determined : {w : ℕ} {xs b c d : List ℕ} {o p : Outcome} → WritesSheet w xs b c o → WritesSheet w xs b d p → (o ≡ p) × (c ≡ d)
+write-determined (of.refused e a q) (of.refused f d r) = (q ∙ sym e ∙ f ∙ sym r, a ∙ sym d)
+write-determined (of.refused e a q) (of.made f d r) = absurd (never e f)
+write-determined (of.made e a q) (of.refused f d r) = absurd (never f e)
+write-determined (of.made e a q) (of.made f d r) = (q ∙ sym r, a ∙ sym d)
+
+-- the answer and every word of the area are determined
+pub read-determined : {b xs ys zs : List ℕ} {x y : Contents} → ReadsSheet b xs ys x → ReadsSheet b xs zs y → (x ≡ y) × (ys ≡ zs)
+read-determined (of.short e a q) (of.short f d r) = (q ∙ ap unread (sym e ∙ f) ∙ sym r, a ∙ sym d)
+read-determined (of.short e a q) (of.refused f g d r) = absurd (never e f)
+read-determined (of.short e a q) (of.taken f g d r) = absurd (never e f)
+read-determined (of.refused e h a q) (of.short f d r) = absurd (never f e)
+read-determined (of.refused e h a q) (of.refused f g d r) = (q ∙ ap unread (sym h ∙ g) ∙ sym r, a ∙ sym d)
+read-determined (of.refused e h a q) (of.taken f g d r) = absurd (never h g)
+read-determined (of.taken e h a q) (of.short f d r) = absurd (never f e)
+read-determined (of.taken e h a q) (of.refused f g d r) = absurd (never g h)
+read-determined (of.taken e h a q) (of.taken f g d r) = (q ∙ sym r, a ∙ sym d)
+
+-- what an answer of the reader is
+record Read (b xs ys : List ℕ) (x : Contents) : Type 0 where
+  bytes : sheet-bytes ≤ length b
+  passes : check-sheet b ≡ Answered
+  word-is : x .modulus ≡ word b 0
+  area-is : ys ≡ area-of b ++ drop area-words xs
+  polynomial-is : x .polynomial ≡ reduced (modulus (word b 0)) (composed (parts-in (held b) most-parts))
+
+answer : {b xs ys : List ℕ} {x : Contents} → ReadsSheet b xs ys x → x .outcome ≡ Answered → Read b xs ys x
+unfolding unread
+answer (of.short e a q) z = absurd (never (ap (λ (x : Contents). x .outcome) q) z)
+answer (of.refused e h a q) z = absurd (never (ap (λ (x : Contents). x .outcome) q) z)
+answer {b} {xs} (of.taken e h a q) z = record {
+  bytes = room (length b) (length xs) e .0;
+  passes = h;
+  word-is = ap (λ (x : Contents). x .modulus) q;
+  area-is = a;
+  polynomial-is = ap (λ (x : Contents). x .polynomial) q;
+}
+
+-- a sheet that passes, with room, is answered
+sheet-answered : {b xs ys : List ℕ} {x : Contents} → sheet-bytes ≤ length b → area-words ≤ length xs → check-sheet b ≡ Answered → ReadsSheet b xs ys x → x .outcome ≡ Answered
+sheet-answered n k s (of.short e a q) = absurd (never e (roomy n k))
+sheet-answered n k s (of.refused e h a q) = absurd (never h s)
+sheet-answered n k s (of.taken e h a q) = ap (λ (x : Contents). x .outcome) q
+
+area-answered : {w : ℕ} {xs b c : List ℕ} {o : Outcome} → sheet-bytes ≤ length b → area-words ≤ length xs → check-area w xs ≡ Answered → WritesSheet w xs b c o → o ≡ Answered
+unfolding check-writer
+area-answered n k s (of.refused e a q) = absurd (never e (simp (roomy n k) s))
+area-answered n k s (of.made e a q) = q
+
+-- the parts of an answer, by the modulus m, in the first places of the area ys, compose to f
+pub record ComposedOf (m : ℕ) (ys f : List ℕ) : Type 0 where
+  pub modulus : check-modulus m ≡ Answered
+  pub parts : Parted m (place ys)
+  pub count : ℕ
+  pub first : FirstOnes (λ i. used (place ys i)) count
+  pub within : product (degrees (parts-in (place ys) most-parts)) ≤ limit
+  pub reduced : Reduced m f
+  pub composes : Same m f (composed (parts-in (place ys) most-parts))
+
+-- the reader's polynomial is the composition of its parts
+pub read-composes : {b xs ys : List ℕ} {x : Contents} → ReadsSheet b xs ys x → x .outcome ≡ Answered → ComposedOf (modulus (x .modulus)) ys (x .polynomial)
+read-composes {b} {xs} {ys} {x} k z =
+    let r = answer k z in
+    let (p, q, s, t) = sheet-passes b (r .passes) in
+    let one = sheet-modulus b p s q in
+    let above = accepted-modulus one .above-one in
+    let (count, ones) = order-exact (λ i. used (record-at b i)) q in
+    let same : (i : ℕ) → i < most-parts → held b i ≡ place ys i
+    = λ i l. sym (ap (λ (y : List ℕ). place y i) (r .area-is) ∙ place-taken b (drop area-words xs) i l) in
+    let parts = parts-ext (held b) (place ys) most-parts same in
+    let within = product-within (held b) t in
+    let parted = records-parted b p s in
+    subst (λ (w : ℕ). ComposedOf (modulus w) ys (x .polynomial)) (sym (r .word-is)) (record {
+      modulus = one;
+      parts = parted-ext same parted;
+      count = count;
+      first = record { some = ones .some; most = ones .most; is = λ i l. ap used (sym (same i l)) ∙ used-same b p i l ∙ ones .is i l };
+      within = rw (← parts) within;
+      reduced = rw (r .polynomial-is) (reduced-reduced _ (omega arith) _);
+      composes = rw (r .polynomial-is, ← parts) (same-sym (composed-same above parted most-parts (omega arith) within));
+    })
+
+sheet-long : (w : ℕ) (xs : List ℕ) → length (sheet-of w xs) ≡ sheet-bytes
+unfolding sheet-of sheet-bytes
+sheet-long w xs = joined-length (λ i. recorded w (place xs i)) record-bytes (λ i. recorded-long w (place xs i)) most-parts
+
+-- the area of the sheet of an area
+area-again : {w : ℕ} → w < 2 ^ 32 → (xs rest : List ℕ) → area-words ≤ length xs → check-area w xs ≡ Answered → area-of (sheet-of w xs ++ rest) ≡ take area-words xs
+unfolding area-of area-words
+area-again {w} small xs rest k s = joined-ext most-parts (held (sheet-of w xs ++ rest)) (place xs) (written-held small xs rest k s) ∙ pieces terms most-parts xs
+
+-- written and read: from the area xs into the area ys, now zs
+pub record Again (w : ℕ) (xs ys zs : List ℕ) (x : Contents) : Type 0 where
+  pub answered : x .outcome ≡ Answered
+  pub same-modulus : x .modulus ≡ w
+  pub same-area : zs ≡ take area-words xs ++ drop area-words ys
+  pub composition : x .polynomial ≡ reduced (modulus w) (composed (parts-in (place xs) most-parts))
+
+-- the same modulus and the same area, for every area that the writer accepts; w is a word
+pub write-read : {w : ℕ} {xs b c ys zs : List ℕ} {o : Outcome} {x : Contents} → w < 2 ^ 32 → WritesSheet w xs b c o → o ≡ Answered → ReadsSheet c ys zs x → area-words ≤ length ys → Again w xs ys zs x
+unfolding check-writer
+write-read small (of.refused e a q) z r words = absurd (never q z)
+write-read {w} {xs} {b} {c} {ys} {zs} {o} {x} small (of.made e a q) z r words =
+    let (g, s) = then-both (check-room (length b) (length xs)) (check-area w xs) e in
+    let (n, k) = room (length b) (length xs) g in
+    let rest = drop sheet-bytes b in
+    let r′ = subst (λ (c : List ℕ). ReadsSheet c ys zs x) a r in
+    let long : sheet-bytes ≤ length (sheet-of w xs ++ rest) = omega (arith, length-append (sheet-of w xs) rest, sheet-long w xs) in
+    let y = sheet-answered long words (written-sheet small xs rest k s) r′ in
+    let d = answer r′ y in
+    record {
+      answered = y;
+      same-modulus = d .word-is ∙ written-modulus small xs rest k s;
+      same-area = d .area-is ∙ ap (λ (l : List ℕ). l ++ drop area-words ys) (area-again small xs rest k s);
+      composition = d .polynomial-is
+          ∙ ap₂ (λ (w : ℕ) (l : List (List ℕ)). reduced (modulus w) (composed l)) (written-modulus small xs rest k s) (parts-ext (held (sheet-of w xs ++ rest)) (place xs) most-parts (written-held small xs rest k s));
+    }
+
+-- any valid parts, in an area
+module _ (w : ℕ) {parts : List (List ℕ)} (p : Parts (modulus w) parts) (ws : List ℕ) {xs : List ℕ} (before : area-words ≤ length ws) (is : xs ≡ written ws parts)
+    {b c : List ℕ} {o : Outcome} (wrote : WritesSheet w xs b c o) (bytes : sheet-bytes ≤ length b) where
+  -- the writer accepts them
+  pub parts-written : o ≡ Answered
+  parts-written = area-answered bytes (laid-room p ws before is) (laid-passes p ws before is w refl) wrote
+
+  -- read, they give the area, and whatever is the same as their composition
+  pub parts-read : {f ys zs : List ℕ} {x : Contents} → w < 2 ^ 32 → Reduced (modulus w) f → Same (modulus w) f (composed parts) → ReadsSheet c ys zs x → area-words ≤ length ys
+      → Again w xs ys zs x × (x .polynomial ≡ f)
+  parts-read small red same r words =
+      let a = write-read small wrote parts-written r words in
+      (a, a .composition ∙ laid-composition p ws before is red same)
+
+-- a chain's area
+module _ {w : ℕ} {f ws xs : List ℕ} {y : Chained} (long : length f ≡ terms) (chain : ChainOf (modulus w) f ws xs y) (given : y .outcome ≡ Answered)
+    {b c : List ℕ} {o : Outcome} (wrote : WritesSheet w xs b c o) (bytes : sheet-bytes ≤ length b) where
+  -- the writer accepts it
+  pub chain-written : o ≡ Answered
+  chain-written = let (parts, k) = chain-complete long chain given in parts-written w (chain-parts k) ws (k .room) (k .area) wrote bytes
+
+  -- read, it gives the area and the f that it came from
+  pub chain-read : {ys zs : List ℕ} {x : Contents} → w < 2 ^ 32 → ReadsSheet c ys zs x → area-words ≤ length ys → Again w xs ys zs x × (x .polynomial ≡ f)
+  chain-read small r words =
+      let (parts, k) = chain-complete long chain given in
+      parts-read w (chain-parts k) ws (k .room) (k .area) wrote bytes small (k .accepted .reduced) (k .composes) r words
+
+-- an accepted sheet, read and written: the same bytes
+pub read-write : {b xs ys d c : List ℕ} {x : Contents} {o : Outcome} → Bytes b → ReadsSheet b xs ys x → x .outcome ≡ Answered → WritesSheet (x .modulus) ys d c o → sheet-bytes ≤ length d
+    → (o ≡ Answered) × (c ≡ take sheet-bytes b ++ drop sheet-bytes d)
+read-write {b} {xs} {ys} {d} {c} {x} {o} small r given wrote n = go w′
+  where
+    e : Read b xs ys x
+    e = answer r given
+
+    w′ : WritesSheet (word b 0) (area-of b ++ drop area-words xs) d c o
+    w′ = rw (e .word-is, e .area-is) at wrote
+
+    wide : area-words ≤ length (area-of b ++ drop area-words xs)
+    wide = omega (arith, length-append (area-of b) (drop area-words xs), area-long b)
+
+    yes-written : o ≡ Answered
+    yes-written = area-answered n wide (taken-area b (drop area-words xs) (e .bytes) (e .passes)) w′
+
+    go : WritesSheet (word b 0) (area-of b ++ drop area-words xs) d c o → (o ≡ Answered) × (c ≡ take sheet-bytes b ++ drop sheet-bytes d)
+    go (of.refused f a q) = absurd (never q yes-written)
+    go (of.made f a q) = (q, a ∙ ap (λ (l : List ℕ). l ++ drop sheet-bytes d) (taken-written b (drop area-words xs) (e .bytes) (e .passes) small))
+
+-- over itself it does not change
+pub read-back : {b xs ys c : List ℕ} {x : Contents} {o : Outcome} → Bytes b → ReadsSheet b xs ys x → x .outcome ≡ Answered → WritesSheet (x .modulus) ys b c o → (o ≡ Answered) × (c ≡ b)
+read-back {b} small r given wrote = let (p, q) = read-write small r given wrote (answer r given .bytes) in (p, q ∙ take-append-drop sheet-bytes b)

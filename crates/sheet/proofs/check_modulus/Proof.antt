@@ -1,0 +1,50 @@
+use mathlib.Core.Path.{_≡_, ap, sym, _∙_}
+use mathlib.Core.List.{List}
+use Prim.Native.Nat.{ℕ}
+use borrow.Author.Tests.{eq-eqb, ne-eqb, not-true, not-false}
+use Rattle.record.specs.Record.{word}
+use Rattle.algebra.specs.Polynomial.{limit, terms}
+use Rattle.area.specs.Area.{most-parts, area-words}
+use Rattle.record.specs.Record.{record-bytes}
+use Rattle.sheet.specs.Sheet.{sheet-bytes}
+use Rattle.sheet.specs.Sheet.{record-at}
+use Rattle.sheet.proofs.Joining.{cut}
+use borrow.Author.Needs.{needs}
+use Rattle.sheet.proofs.check_modulus.Statement.{statement}
+use Rattle.sheet.proofs.check_modulus.Tie as tie
+
+returns : tie.Need-returns
+returns c = let u = sym (c .before .used .ensures) ∙ not-true _ (c .if1 .taken) in simp u
+
+returns-2 : tie.Need-returns-2
+unfolding sheet-bytes record-bytes area-words most-parts terms limit
+returns-2 c =
+    let a = c .before .before .before .before .before .before .before .args in
+    let e = c .before .word .ensures ∙ ap (λ (r : List ℕ). word r 0) (cut record-bytes (a .i) (a .sheet .now)) in
+    let u = sym (c .before .before .before .before .used .ensures) ∙ not-false _ (c .before .before .before .if1 .left) in
+    simp (u, eq-eqb (word (record-at (a .sheet .now) (a .i)) 0) (a .m) (sym e ∙ c .if2 .taken))
+
+returns-3 : tie.Need-returns-3
+unfolding sheet-bytes record-bytes area-words most-parts terms limit
+returns-3 c =
+    let a = c .before .before .before .before .before .before .before .before .args in
+    let e = c .before .before .word .ensures ∙ ap (λ (r : List ℕ). word r 0) (cut record-bytes (a .i) (a .sheet .now)) in
+    let u = sym (c .before .before .before .before .before .used .ensures) ∙ not-false _ (c .before .before .before .before .if1 .left) in
+    simp (u, ne-eqb (word (record-at (a .sheet .now) (a .i)) 0) (a .m) (λ z. c .before .if2 .left (e ∙ z))) (c .refused .ensures)
+
+pub check-modulus-spec : {M : Type 1} → statement M
+unfolding sheet-bytes record-bytes area-words most-parts terms limit
+check-modulus-spec =
+    tie.close
+    (tie.spec
+    (λ c κs. search needs)
+    returns
+    (λ c. search needs)
+    (λ c. search needs)
+    (λ c. search needs)
+    (λ c. search needs)
+    (λ c. search needs)
+    (λ c κs. search needs)
+    returns-2
+    (λ c κs. search needs)
+    returns-3)

@@ -1,0 +1,71 @@
+use native.Mathlib.Omega.{arith}
+use Rattle.refusal.proofs.Outcomes.{passed-on}
+use Rattle.polynomial.proofs.Acceptance.{accepted-modulus}
+use Rattle.algebra.specs.Polynomial.{limit, terms}
+use Rattle.area.specs.Area.{most-parts, area-words}
+use Rattle.record.specs.Record.{record-bytes}
+use Rattle.sheet.specs.Sheet.{sheet-bytes}
+use Rattle.sheet.proofs.Answering.{room, read-short, read-refused, taken-used, taken-rising, read-rejected, taken-composes, read-taken}
+use borrow.Author.Needs.{needs}
+use Rattle.sheet.proofs.read.Statement.{statement}
+use Rattle.sheet.proofs.read.Tie as tie
+
+returns : tie.Need-returns
+returns c = read-short _ _ (c .before .before .before .check-room .ensures) (c .before .before .refuses .ensures) (c .before .if1 .taken) (c .unread .ensures)
+
+take-records-requires : tie.Need-take-records-requires
+take-records-requires c κs = room _ _ (passed-on (c .before .before .before .check-room .ensures) (c .before .before .refuses .ensures) (c .before .if1 .left))
+
+refuse-requires : tie.Need-refuse-requires
+refuse-requires c κs = let (x, y) = room _ _ (passed-on (c .before .before .before .before .before .before .before .before .before .check-room .ensures) (c .before .before .before .before .before .before .before .before .refuses .ensures) (c .before .before .before .before .before .before .before .if1 .left)) in omega (arith, y)
+
+returns-2 : tie.Need-returns-2
+returns-2 c = read-refused _ _ (c .before .before .before .before .before .before .before .before .before .before .before .before .check-room .ensures) (c .before .before .before .before .before .before .before .before .before .before .before .refuses .ensures) (c .before .before .before .before .before .before .before .before .before .before .if1 .left) (c .before .before .before .before .before .before .before .before .take-records .ensures) (c .before .before .before .before .before .refuses2 .ensures) (c .before .before .before .before .if2 .taken) (c .before .before .refuse .ensures)
+
+check-taken-requires : tie.Need-check-taken-requires
+check-taken-requires c κs =
+    let (x, y) = room _ _ (passed-on (c .before .before .before .before .before .before .before .before .before .check-room .ensures) (c .before .before .before .before .before .before .before .before .refuses .ensures) (c .before .before .before .before .before .before .before .if1 .left)) in
+    (x, omega (arith, y), taken-used _ _ (c .before .before .before .before .before .before .before .before .before .check-room .ensures) (c .before .before .before .before .before .before .before .before .refuses .ensures) (c .before .before .before .before .before .before .before .if1 .left) (c .before .before .before .before .before .take-records .ensures) (c .before .before .refuses2 .ensures) (c .before .if2 .left), taken-rising _ _ (c .before .before .before .before .before .before .before .before .before .check-room .ensures) (c .before .before .before .before .before .before .before .before .refuses .ensures) (c .before .before .before .before .before .before .before .if1 .left) (c .before .before .before .before .before .take-records .ensures) (c .before .before .refuses2 .ensures) (c .before .if2 .left))
+
+refuse-requires-2 : tie.Need-refuse-requires-2
+refuse-requires-2 c κs = let (x, y) = room _ _ (passed-on (c .before .before .before .before .before .before .before .before .before .before .before .before .before .check-room .ensures) (c .before .before .before .before .before .before .before .before .before .before .before .before .refuses .ensures) (c .before .before .before .before .before .before .before .before .before .before .before .if1 .left)) in omega (arith, y)
+
+returns-3 : tie.Need-returns-3
+returns-3 c = read-rejected _ _ (c .before .before .before .before .before .before .before .before .before .before .before .before .before .before .before .before .check-room .ensures) (c .before .before .before .before .before .before .before .before .before .before .before .before .before .before .before .refuses .ensures) (c .before .before .before .before .before .before .before .before .before .before .before .before .before .before .if1 .left) (c .before .before .before .before .before .before .before .before .before .before .before .before .take-records .ensures) (c .before .before .before .before .before .before .before .before .before .refuses2 .ensures) (c .before .before .before .before .before .before .before .before .if2 .left) (c .before .before .before .before .before .before .check-taken .ensures) (c .before .before .before .before .before .refuses3 .ensures) (c .before .before .before .before .if3 .taken) (c .before .before .refuse2 .ensures)
+
+word-requires : tie.Need-word-requires
+unfolding sheet-bytes record-bytes most-parts terms limit
+word-requires c κs = let (x, y) = room _ _ (passed-on (c .before .before .before .before .before .before .before .before .before .before .before .before .check-room .ensures) (c .before .before .before .before .before .before .before .before .before .before .before .refuses .ensures) (c .before .before .before .before .before .before .before .before .before .before .if1 .left)) in omega (arith, x)
+
+compose-requires : tie.Need-compose-requires
+compose-requires c κs =
+    let (x, y) = room _ _ (passed-on (c .before .before .before .before .before .before .before .before .before .before .before .before .before .before .before .check-room .ensures) (c .before .before .before .before .before .before .before .before .before .before .before .before .before .before .refuses .ensures) (c .before .before .before .before .before .before .before .before .before .before .before .before .before .if1 .left)) in
+    let (one, k) = taken-composes _ _ (c .before .before .before .before .before .before .before .before .before .before .before .before .before .before .before .check-room .ensures) (c .before .before .before .before .before .before .before .before .before .before .before .before .before .before .refuses .ensures) (c .before .before .before .before .before .before .before .before .before .before .before .before .before .if1 .left) (c .before .before .before .before .before .before .before .before .before .before .before .take-records .ensures) (c .before .before .before .before .before .before .before .before .refuses2 .ensures) (c .before .before .before .before .before .before .before .if2 .left) (c .before .before .before .before .before .check-taken .ensures) (c .before .before .before .before .refuses3 .ensures) (c .before .before .before .if3 .left) in
+    rw (c .modulus .ensures, c .before .before .word .ensures) (accepted-modulus one, omega (arith, y), k)
+
+returns-4 : tie.Need-returns-4
+returns-4 c = read-taken _ _ (c .before .before .before .before .before .before .before .before .before .before .before .before .before .before .before .before .check-room .ensures) (c .before .before .before .before .before .before .before .before .before .before .before .before .before .before .before .refuses .ensures) (c .before .before .before .before .before .before .before .before .before .before .before .before .before .before .if1 .left) (c .before .before .before .before .before .before .before .before .before .before .before .before .take-records .ensures) (c .before .before .before .before .before .before .before .before .before .refuses2 .ensures) (c .before .before .before .before .before .before .before .before .if2 .left) (c .before .before .before .before .before .before .check-taken .ensures) (c .before .before .before .before .before .refuses3 .ensures) (c .before .before .before .before .if3 .left) (c .before .before .before .word .ensures) (c .before .modulus .ensures) (c .compose .ensures)
+
+pub read-spec : {M : Type 1} → statement M
+read-spec =
+    tie.close
+    (tie.spec
+    (λ c κs. search needs)
+    (λ c κs. search needs)
+    (λ c κs. search needs)
+    returns
+    take-records-requires
+    (λ c κs. search needs)
+    refuse-requires
+    (λ c. search needs)
+    returns-2
+    check-taken-requires
+    (λ c κs. search needs)
+    refuse-requires-2
+    (λ c. search needs)
+    returns-3
+    word-requires
+    (λ c κs. search needs)
+    compose-requires
+    (λ c. search needs)
+    returns-4)

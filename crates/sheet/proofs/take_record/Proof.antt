@@ -1,0 +1,60 @@
+use mathlib.Core.Path.{_≡_, ap, _∙_}
+use mathlib.Core.List.{List}
+use Prim.Native.Nat.{ℕ}
+use native.Mathlib.Omega.{arith}
+use lib.ListN.{length}
+use Rattle.area.specs.Area.{put-at}
+use Rattle.record.specs.Record.{word, coefficients}
+use Rattle.algebra.specs.Polynomial.{limit, terms}
+use Rattle.area.specs.Area.{most-parts, area-words}
+use Rattle.record.specs.Record.{record-bytes}
+use Rattle.sheet.specs.Sheet.{sheet-bytes}
+use Rattle.sheet.proofs.Joining.{cut, piece-long, cut-long}
+use Rattle.sheet.proofs.Taking.{placed-unused, placed-used}
+use borrow.Author.Needs.{needs}
+use Rattle.sheet.proofs.take_record.Statement.{statement}
+use Rattle.sheet.proofs.take_record.Tie as tie
+
+coefficients-requires : tie.Need-coefficients-requires
+unfolding sheet-bytes record-bytes area-words most-parts terms limit
+coefficients-requires c κs =
+    let a = c .before .before .before .before .args in
+    let p = c .before .before .before .before .pre in
+    omega (arith, cut-long record-bytes most-parts (a .i) (a .sheet .now) (p .1) (p .0))
+
+returns : tie.Need-returns
+unfolding sheet-bytes record-bytes area-words most-parts terms limit
+returns c =
+    let a = c .before .before .before .before .before .before .before .before .before .before .before .before .before .args in
+    let p = c .before .before .before .before .before .before .before .before .before .before .before .before .before .pre in
+    (placed-unused _ _ (piece-long record-bytes most-parts (a .i) (a .sheet .now) (p .1) (p .0)) (c .before .before .before .before .before .before .before .before .before .word .ensures ∙ ap (λ (r : List ℕ). word r 0) (cut record-bytes (a .i) (a .sheet .now))) (c .before .before .before .before .before .before .before .before .coefficients .ensures ∙ ap coefficients (cut record-bytes (a .i) (a .sheet .now))) (c .before .is-blank .ensures) (c .if1 .taken), c .before .before .before .before .before .put .ensures ∙ ap (put-at (a .area .now) (a .i)) (c .before .before .before .before .before .before .before .before .coefficients .ensures ∙ ap coefficients (cut record-bytes (a .i) (a .sheet .now))))
+
+returns-2 : tie.Need-returns-2
+unfolding sheet-bytes record-bytes area-words most-parts terms limit
+returns-2 c =
+    let a = c .before .before .before .before .before .before .before .before .before .before .before .before .before .before .before .args in
+    let p = c .before .before .before .before .before .before .before .before .before .before .before .before .before .before .before .pre in
+    (placed-used _ _ (piece-long record-bytes most-parts (a .i) (a .sheet .now) (p .1) (p .0)) (c .before .before .before .before .before .before .before .before .before .before .before .word .ensures ∙ ap (λ (r : List ℕ). word r 0) (cut record-bytes (a .i) (a .sheet .now))) (c .before .before .before .before .before .before .before .before .before .before .coefficients .ensures ∙ ap coefficients (cut record-bytes (a .i) (a .sheet .now))) (c .before .before .before .is-blank .ensures) (c .before .before .if1 .left) (c .check-words .ensures), c .before .before .before .before .before .before .before .put .ensures ∙ ap (put-at (a .area .now) (a .i)) (c .before .before .before .before .before .before .before .before .before .before .coefficients .ensures ∙ ap coefficients (cut record-bytes (a .i) (a .sheet .now))))
+
+pub take-record-spec : {M : Type 1} → statement M
+unfolding sheet-bytes record-bytes area-words most-parts terms limit
+take-record-spec =
+    tie.close
+    (tie.spec
+    (λ c. search needs)
+    (λ c. search needs)
+    (λ c. search needs)
+    (λ c. search needs)
+    (λ c. search needs)
+    (λ c κs. search needs)
+    coefficients-requires
+    (λ c. search needs)
+    (λ c κs. search needs)
+    (λ c. search needs)
+    (λ c κs. search needs)
+    (λ c. search needs)
+    returns
+    (λ c. search needs)
+    (λ c κs. search needs)
+    (λ c. search needs)
+    returns-2)
