@@ -7,7 +7,8 @@ use Rattle.area.specs.Area.{most-parts}
 use Rattle.record.specs.Record.{record-bytes}
 use Rattle.listing.specs.Text.{most-digits, most-field, before-degrees, most-line}
 use Rattle.listing.specs.Listing.{most-records, most-lines}
-use Rattle.list.specs.Reading.{most-listed, most-read, buffer-bytes}
+use Rattle.reading.specs.Reading.{most-listed, most-read}
+use Rattle.list.specs.Step.{buffer-bytes}
 use Rattle.list.proofs.main.Statement.{statement}
 use Rattle.list.proofs.main.Tie as tie
 

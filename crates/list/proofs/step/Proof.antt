@@ -6,7 +6,8 @@ use lib.Seq.{length-take-le}
 use Rattle.algebra.specs.Polynomial.{terms, limit}
 use Rattle.record.specs.Record.{record-bytes}
 use Rattle.listing.specs.Listing.{most-records}
-use Rattle.list.specs.Reading.{most-listed, most-read, buffer-bytes, number-after}
+use Rattle.reading.specs.Reading.{most-listed, most-read, number-after}
+use Rattle.list.specs.Step.{buffer-bytes}
 use Rattle.list.proofs.step.Statement.{statement}
 use Rattle.list.proofs.step.Tie as tie
 

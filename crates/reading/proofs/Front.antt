@@ -8,7 +8,7 @@ use native.Mathlib.Omega.{arith}
 use lib.ListN.{length, set, take, drop, getD, length-drop}
 use lib.Seq.{getD-drop, getD-append-add, length-take-le}
 use Rattle.area.proofs.Copying.{copy-more}
-use Rattle.list.specs.Reading.{to-front}
+use Rattle.reading.specs.Reading.{to-front}
 
 -- no store so far has reached the element that comes next
 next : (xs : List ℕ) (from i : ℕ) → from + i < length xs → getD (take i (drop from xs) ++ drop i xs) (from + i) 0 ≡ getD (drop from xs) i 0

@@ -3,10 +3,10 @@ use Prim.Native.Nat.{_≤_, _-_}
 use native.Mathlib.Omega.{arith}
 use borrow.Author.Needs.{needs}
 use lib.ListN.{length, length-set}
-use Rattle.list.specs.Reading.{to-front}
-use Rattle.list.proofs.Front.{to-front-more}
-use Rattle.list.proofs.keep.Statement.{statement}
-use Rattle.list.proofs.keep.Tie as tie
+use Rattle.reading.specs.Reading.{to-front}
+use Rattle.reading.proofs.Front.{to-front-more}
+use Rattle.reading.proofs.keep.Statement.{statement}
+use Rattle.reading.proofs.keep.Tie as tie
 
 abbrev Inv-loop : tie.InvT-loop
 Inv-loop buf₀ from n i₀ buf i = (i ≤ n) × (length buf ≡ length buf₀) × (buf ≡ to-front buf₀ from i)
