@@ -1,10 +1,12 @@
 //! The list of all that is compared.
 
 use crate::entry::Entry;
-use crate::law::{self, changed_chain, changed_split, round_trip};
+use crate::law::{
+    self, changed_chain, changed_split, read_composed, read_written, round_trip, written_read,
+};
 use crate::operation::{
-    self, chain, change_pair, change_polynomial, check, combine, compose, left_part, part, split,
-    tiny_chain, tiny_left_part, tiny_split, undo,
+    self, chain, change_pair, change_polynomial, check, combine, compose, left_part, part,
+    read_sheet, split, tiny_chain, tiny_left_part, tiny_split, undo, write_sheet,
 };
 
 pub const ALL: &[Entry] = &[
@@ -21,7 +23,12 @@ pub const ALL: &[Entry] = &[
     operation::entry::<chain::Chain>(),
     operation::entry::<tiny_chain::TinyChain>(),
     operation::entry::<part::Part>(),
+    operation::entry::<write_sheet::WriteSheet>(),
+    operation::entry::<read_sheet::ReadSheet>(),
     law::entry::<round_trip::RoundTrip>(),
     law::entry::<changed_split::ChangedSplit>(),
     law::entry::<changed_chain::ChangedChain>(),
+    law::entry::<written_read::WrittenRead>(),
+    law::entry::<read_written::ReadWritten>(),
+    law::entry::<read_composed::ReadComposed>(),
 ];

@@ -3,12 +3,16 @@
 
 use crate::change::{Change, IDENTITY};
 use crate::polynomial::{Polynomial, PLACES};
+use crate::record::{Record, RECORD_BYTES};
 use crate::refused::Refused;
 
 /// "A chain area is a lent area of words; its first 762 (6 times 127) are
 /// used."
 pub const TOP_PARTS: usize = 6;
 pub const AREA_WORDS: usize = TOP_PARTS * PLACES;
+
+/// "A chain sheet is six records" (request No. 2).
+pub const SHEET_BYTES: usize = TOP_PARTS * RECORD_BYTES;
 
 /// Name and value of each thing answered.
 pub type Lines = Vec<(&'static str, String)>;
@@ -202,15 +206,22 @@ impl Answer for Chained {
             ("refusal", self.refused.to_string()),
             ("numbers", format!("{numbers:?} (parts, tries, price)")),
         ];
-        if self.area.len() < AREA_WORDS {
-            lines.push(("area", format!("{:?}", self.area)));
-            return lines;
-        }
-        let places = self.area.chunks(PLACES).zip(PART_NAMES);
-        lines.extend(places.map(|(words, name)| (name, Polynomial::of(words).to_string())));
-        lines.push(("past 762", format!("{:?}", &self.area[AREA_WORDS..])));
+        lines.extend(lines_of_area(&self.area));
         lines
     }
+}
+
+/// Part under part, and what stands past them.
+fn lines_of_area(area: &[u32]) -> Lines {
+    if area.len() < AREA_WORDS {
+        return vec![("area", format!("{area:?}"))];
+    }
+    let places = area.chunks(PLACES).zip(PART_NAMES);
+    let mut lines: Lines = places
+        .map(|(words, name)| (name, Polynomial::of(words).to_string()))
+        .collect();
+    lines.push(("past 762", format!("{:?}", &area[AREA_WORDS..])));
+    lines
 }
 
 /// Where a part is handed out: start and length in the caller's area, 0 and 0
@@ -232,5 +243,76 @@ impl Answer for Place {
             ("start", self.start.to_string()),
             ("length", self.length.to_string()),
         ]
+    }
+}
+
+/// What writing a sheet gives: the whole of the lent bytes afterwards.
+#[derive(Clone, Debug, PartialEq, Eq)]
+pub struct Written {
+    pub refused: Refused,
+    pub sheet: Vec<u8>,
+}
+
+impl Answer for Written {
+    fn refused(&self) -> Refused {
+        self.refused
+    }
+
+    fn lines(&self) -> Lines {
+        let mut lines = vec![("refusal", self.refused.to_string())];
+        lines.extend(lines_of_sheet(&self.sheet));
+        lines
+    }
+}
+
+/// Record under record, and what stands past them.
+fn lines_of_sheet(sheet: &[u8]) -> Lines {
+    if sheet.len() < SHEET_BYTES {
+        return vec![("sheet", format!("{sheet:?}"))];
+    }
+    let places = sheet.chunks(RECORD_BYTES).zip(PART_NAMES);
+    let mut lines: Lines = places
+        .map(|(bytes, name)| (name, Record::read_padded(bytes).to_string()))
+        .collect();
+    lines.push(("past 3072", format!("{:?}", &sheet[SHEET_BYTES..])));
+    lines
+}
+
+/// What reading a sheet gives: it "gives the modulus, fills a chain area and
+/// composes the parts".
+#[derive(Clone, Debug, PartialEq, Eq)]
+pub struct SheetRead {
+    pub refused: Refused,
+    pub modulus: u32,
+    pub f: Polynomial,
+    pub area: Vec<u32>,
+}
+
+impl SheetRead {
+    /// "A refused sheet leaves the reader's polynomial" zero, and moduli are 0
+    /// after a refusal; the area is as `area` says.
+    pub fn refused_with(refused: Refused, area: Vec<u32>) -> SheetRead {
+        SheetRead {
+            refused,
+            modulus: 0,
+            f: Polynomial::ZERO,
+            area,
+        }
+    }
+}
+
+impl Answer for SheetRead {
+    fn refused(&self) -> Refused {
+        self.refused
+    }
+
+    fn lines(&self) -> Lines {
+        let mut lines = vec![
+            ("refusal", self.refused.to_string()),
+            ("modulus", self.modulus.to_string()),
+            ("f", self.f.to_string()),
+        ];
+        lines.extend(lines_of_area(&self.area));
+        lines
     }
 }

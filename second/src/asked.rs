@@ -13,6 +13,14 @@ pub struct Asked {
 }
 
 impl Asked {
+    /// A modulus alone.
+    pub fn none(m: u32) -> Asked {
+        Asked {
+            m,
+            polynomials: Vec::new(),
+        }
+    }
+
     pub fn one(m: u32, first: Polynomial) -> Asked {
         Asked {
             m,

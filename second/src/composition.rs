@@ -26,3 +26,17 @@ fn by_halves(g: &[u32], h: &[u32], m: u32) -> Vec<u32> {
     }
     whole
 }
+
+/// The parts of a chain composed, left to right, where the product of all the
+/// degrees is 126 at most. Composing is associative: the left half of the parts
+/// is composed, and the right half, and then the two.
+pub fn chain_composed(parts: &[Polynomial], m: u32) -> Polynomial {
+    match parts {
+        [] => panic!("a chain has a part"),
+        [whole] => whole.clone(),
+        _ => {
+            let (left, right) = parts.split_at(parts.len() / 2);
+            composed(&chain_composed(left, m), &chain_composed(right, m), m)
+        }
+    }
+}

@@ -5,7 +5,7 @@
 //! and fenced, and gives what stands in it after the call. An error is about
 //! memory that the desk had no right to write.
 
-use crate::answer::{Chained, Changed, Checked, One, Place, Two};
+use crate::answer::{Chained, Changed, Checked, One, Place, SheetRead, Two, Written};
 use crate::change::Change;
 use crate::lent::{garbage, Given, Lent, LentArea};
 use crate::polynomial::{Polynomial, PLACES};
@@ -68,6 +68,21 @@ extern "C" {
         numbers: *mut [usize; 3],
     ) -> Refused;
     fn desk_part(area: *const u32, count: usize, i: usize, place: *mut [usize; 2]);
+    fn desk_write_sheet(
+        m: u32,
+        area: *const u32,
+        area_count: usize,
+        sheet: *mut u8,
+        sheet_count: usize,
+    ) -> Refused;
+    fn desk_read_sheet(
+        sheet: *const u8,
+        sheet_count: usize,
+        area: *mut u32,
+        area_count: usize,
+        modulus: *mut u32,
+        f: *mut Coefficients,
+    ) -> Refused;
 }
 
 // Memory for one call. In each call below the pointers are to live memory of
@@ -263,7 +278,7 @@ pub fn undo(m: u32, [a, b]: Change, random: &mut Random) -> Result<Changed, Stri
 /// The complete chain of f, in a copy of `area` as it stands.
 pub fn chain(m: u32, f: &Polynomial, area: &[u32], random: &mut Random) -> Result<Chained, String> {
     let mut f = GivenPolynomial::new(f, random);
-    let mut area = LentArea::new(area, random);
+    let mut area = LentArea::words(area, random);
     let mut numbers = lent_counts::<3>(random);
     // SAFETY: as said above of all calls.
     let refused = unsafe {
@@ -295,4 +310,54 @@ pub fn part(area: &[u32], i: usize, random: &mut Random) -> Result<Place, String
     area.give_back("the chain area")?;
     let [start, length] = place.give_back("the place")?;
     Ok(Place { start, length })
+}
+
+/// The sheet of an area's chain, in a copy of `sheet` as it stands.
+pub fn write_sheet(
+    m: u32,
+    area: &[u32],
+    sheet: &[u8],
+    random: &mut Random,
+) -> Result<Written, String> {
+    let mut area = Given::words(area, random);
+    let mut sheet = LentArea::bytes(sheet, random);
+    // SAFETY: as said above of all calls.
+    let refused = unsafe {
+        desk_write_sheet(
+            m,
+            area.pointer(),
+            area.count(),
+            sheet.pointer(),
+            sheet.count(),
+        )
+    };
+    area.give_back("the chain area")?;
+    let sheet = sheet.give_back("the sheet")?;
+    Ok(Written { refused, sheet })
+}
+
+/// The chain of a sheet, in a copy of `area` as it stands.
+pub fn read_sheet(sheet: &[u8], area: &[u32], random: &mut Random) -> Result<SheetRead, String> {
+    let mut sheet = Given::bytes(sheet, random);
+    let mut area = LentArea::words(area, random);
+    let mut modulus = lent_word(random);
+    let mut f = lent_words(random);
+    // SAFETY: as said above of all calls.
+    let refused = unsafe {
+        desk_read_sheet(
+            sheet.pointer(),
+            sheet.count(),
+            area.pointer(),
+            area.count(),
+            modulus.pointer(),
+            f.pointer(),
+        )
+    };
+    sheet.give_back("the sheet")?;
+    Ok(SheetRead {
+        refused,
+        modulus: modulus.give_back("the modulus")?,
+        f: Polynomial(f.give_back("the composed f")?),
+        area: area.give_back("the chain area")?,
+    })
 }

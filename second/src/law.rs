@@ -4,7 +4,10 @@
 
 pub mod changed_chain;
 pub mod changed_split;
+pub mod read_composed;
+pub mod read_written;
 pub mod round_trip;
+pub mod written_read;
 
 use crate::answer::Answer;
 use crate::comparison::{agree, By, Where};

@@ -58,39 +58,53 @@ impl<T> Lent<T> {
     }
 }
 
-/// Words lent to the desk to write, as many as a caller of the chain pleases.
-pub struct LentArea {
-    // Fence, words, fence.
-    whole: Box<[u32]>,
-    fence: [u32; FENCE],
+/// Words or bytes lent to the desk to write, as many as a caller pleases.
+pub struct LentArea<T> {
+    // Fence, items, fence.
+    whole: Box<[T]>,
+    fence: Vec<T>,
 }
 
-impl LentArea {
-    pub fn new(words: &[u32], random: &mut Random) -> LentArea {
-        let fence = [garbage(random); FENCE];
+impl LentArea<u32> {
+    pub fn words(words: &[u32], random: &mut Random) -> LentArea<u32> {
+        LentArea::behind(vec![garbage(random); FENCE], words)
+    }
+}
+
+impl LentArea<u8> {
+    /// The fences are not always of a whole number of words: bytes are not
+    /// always aligned.
+    pub fn bytes(bytes: &[u8], random: &mut Random) -> LentArea<u8> {
+        let fence = random.between(4 * FENCE - 3, 4 * FENCE);
+        LentArea::behind(random.bytes(fence), bytes)
+    }
+}
+
+impl<T: Copy + PartialEq> LentArea<T> {
+    fn behind(fence: Vec<T>, items: &[T]) -> LentArea<T> {
         LentArea {
-            whole: [&fence[..], words, &fence[..]].concat().into_boxed_slice(),
+            whole: [&fence, items, &fence].concat().into_boxed_slice(),
             fence,
         }
     }
 
     pub fn count(&self) -> usize {
-        self.whole.len() - 2 * FENCE
+        self.whole.len() - 2 * self.fence.len()
     }
 
-    pub fn pointer(&mut self) -> *mut u32 {
-        // SAFETY: the words begin after the first fence, which is there.
-        unsafe { self.whole.as_mut_ptr().add(FENCE) }
+    pub fn pointer(&mut self) -> *mut T {
+        // SAFETY: the items begin after the first fence, which is there.
+        unsafe { self.whole.as_mut_ptr().add(self.fence.len()) }
     }
 
-    /// The words as the desk left them.
-    pub fn give_back(self, name: &str) -> Result<Vec<u32>, String> {
-        let (before, rest) = self.whole.split_at(FENCE);
-        let (words, after) = rest.split_at(rest.len() - FENCE);
+    /// The items as the desk left them.
+    pub fn give_back(self, name: &str) -> Result<Vec<T>, String> {
+        let (before, rest) = self.whole.split_at(self.fence.len());
+        let (items, after) = rest.split_at(rest.len() - self.fence.len());
         if before != self.fence || after != self.fence {
             return Err(format!("the desk wrote outside {name}"));
         }
-        Ok(words.to_vec())
+        Ok(items.to_vec())
     }
 }
 

@@ -1,14 +1,14 @@
-//! The independent second program of 01.
+//! The independent second program of 01, and of the requests of 02.
 //!
-//!     second [--inputs N] [--seed S] [--only NAME] [--list PROGRAM]
+//!     second [--inputs N] [--seed S] [--only NAME] [--list PROGRAM] [--sheets PROGRAM]
 //!
-//! It answers every operation of the desk by itself, from 01 alone and sharing
-//! no code with the desk, calls the desk's static library with the same input,
-//! and stops at the first difference. Where it can, it goes another way than
-//! the desk: the left part by division with remainder, the right part as a root
-//! of the reversed polynomial, changes by binomials, and for tiny sizes all of
-//! it by going through all g and h. Then it holds the desk against itself, as
-//! the demands 2 and 3 say.
+//! It answers every operation of the desk by itself, from 01 and 02 alone and
+//! sharing no code with the desk, calls the desk's static library with the same
+//! input, and stops at the first difference. Where it can, it goes another way
+//! than the desk: the left part by division with remainder, the right part as a
+//! root of the reversed polynomial, changes by binomials, and for tiny sizes all
+//! of it by going through all g and h. Then it holds the desk against itself, as
+//! the demands 2 and 3 say, and request No. 2 of its sheets.
 //!
 //! N inputs are compared over all operations, after the worked cases of 01.
 //! Each operation gets its share of them, the cheaper ones more; without N it
@@ -17,8 +17,9 @@
 //! given), the operation and its index only, so a difference at input I is met
 //! again by `--seed S --only NAME --inputs N` with N above I.
 //!
-//! With a PROGRAM it compares whole listings too: the program gets generated
-//! files of records, and what it prints is compared to the last byte.
+//! With a PROGRAM it compares whole runs too: the program gets generated files
+//! of records, and what it writes is compared to the last byte. With --list it
+//! is the listing of 01, with --sheets the sheet of each record's chain.
 //!
 //! The exit code is 0 without a difference, 1 with one, or when some refusal or
 //! kind of answer that an operation can give was never met in a run of 10000
@@ -46,25 +47,34 @@ mod random;
 mod record;
 mod refused;
 mod residue;
+mod runs;
 mod series;
 mod shape;
+mod sheet;
+mod sheets;
 mod tally;
 mod tiny;
 mod worked;
+mod worked_sheets;
 
 use all::ALL;
 use entry::{usual, Entry, Run};
+use listing::Listing;
 use progress::Progress;
+use runs::Program;
+use sheets::Sheets;
 use std::env;
 use std::process::ExitCode;
 
-const USAGE: &str = "second [--inputs N] [--seed S] [--only NAME] [--list PROGRAM]";
+const USAGE: &str =
+    "second [--inputs N] [--seed S] [--only NAME] [--list PROGRAM] [--sheets PROGRAM]";
 
 struct Arguments {
     inputs: Option<u64>,
     seed: u64,
     only: Option<String>,
     list: Option<String>,
+    sheets: Option<String>,
 }
 
 fn number(option: &str, value: &str) -> Result<u64, String> {
@@ -79,6 +89,7 @@ fn arguments(mut words: impl Iterator<Item = String>) -> Result<Arguments, Strin
         seed: 1,
         only: None,
         list: None,
+        sheets: None,
     };
     while let Some(option) = words.next() {
         let value = words.next().ok_or(format!("{option} wants a value"))?;
@@ -87,6 +98,7 @@ fn arguments(mut words: impl Iterator<Item = String>) -> Result<Arguments, Strin
             "--seed" => found.seed = number(&option, &value)?,
             "--only" => found.only = Some(value),
             "--list" => found.list = Some(value),
+            "--sheets" => found.sheets = Some(value),
             _ => return Err(format!("no such option: {option}")),
         }
     }
@@ -104,7 +116,8 @@ fn chosen(only: Option<&str>) -> Result<Vec<&'static Entry>, String> {
     Ok(entries)
 }
 
-fn compare(Wanted { entries, run, list }: &Wanted) -> Result<u64, String> {
+fn compare(wanted: &Wanted) -> Result<u64, String> {
+    let Wanted { entries, run, .. } = wanted;
     println!("second: seed {}, {} inputs", run.seed, run.inputs);
     let chains = worked::own_arithmetic()?;
     println!("own arithmetic: {chains} worked polynomials compose from their parts");
@@ -113,18 +126,31 @@ fn compare(Wanted { entries, run, list }: &Wanted) -> Result<u64, String> {
     for (entry, share) in entries.iter().zip(run.shares(entries)) {
         inputs += (entry.run)(&share, &mut progress)?;
     }
-    if let Some(program) = list {
-        let records = listing::compare(program, run.seed, &mut progress)?;
-        println!("listing: {records} records listed by {program}, no difference");
-        inputs += records;
-    }
+    inputs += whole_runs::<Listing>(&wanted.list, run.seed, &mut progress)?;
+    inputs += whole_runs::<Sheets>(&wanted.sheets, run.seed, &mut progress)?;
     Ok(inputs)
+}
+
+/// Of the program, where one is named; gives the number of records.
+fn whole_runs<P: Program>(
+    program: &Option<String>,
+    seed: u64,
+    progress: &mut Progress,
+) -> Result<u64, String> {
+    let Some(program) = program else { return Ok(0) };
+    let records = runs::compare::<P>(program, seed, progress)?;
+    println!(
+        "{}: {records} records given to {program}, no difference",
+        P::NAME
+    );
+    Ok(records)
 }
 
 struct Wanted {
     entries: Vec<&'static Entry>,
     run: Run,
     list: Option<String>,
+    sheets: Option<String>,
 }
 
 fn wanted() -> Result<Wanted, String> {
@@ -136,6 +162,7 @@ fn wanted() -> Result<Wanted, String> {
         entries,
         run: Run { seed, inputs },
         list: found.list,
+        sheets: found.sheets,
     })
 }
 

@@ -12,11 +12,13 @@ pub mod combine;
 pub mod compose;
 pub mod left_part;
 pub mod part;
+pub mod read_sheet;
 pub mod split;
 pub mod tiny_chain;
 pub mod tiny_left_part;
 pub mod tiny_split;
 pub mod undo;
+pub mod write_sheet;
 
 use crate::answer::Answer;
 use crate::comparison::{agree, By, Where};
@@ -27,7 +29,8 @@ use crate::refused::Refused;
 use crate::tally::{Tally, Wanted};
 
 /// This program's own answer, and every refusal that was due on the input, in
-/// 01's order; the first of these is the one given.
+/// 01's order; the first of these is the one given. A line here may name a place
+/// that the refusal itself does not carry, so that the tally tells them apart.
 pub struct Own<A> {
     pub answer: A,
     pub due: Vec<Refused>,
@@ -35,7 +38,11 @@ pub struct Own<A> {
 
 impl<A> Own<A> {
     /// The answer, or the first refusal that is due.
-    pub fn new(due: Vec<Refused>, refused: fn(Refused) -> A, answer: impl FnOnce() -> A) -> Own<A> {
+    pub fn new(
+        due: Vec<Refused>,
+        refused: impl FnOnce(Refused) -> A,
+        answer: impl FnOnce() -> A,
+    ) -> Own<A> {
         let answer = match due.first() {
             Some(&first) => refused(first),
             None => answer(),
@@ -158,6 +165,7 @@ fn one_input<O: Operation>(seed: u64, index: u64, tally: &mut Tally) -> Result<(
     };
     agree(&at, By("own", &own.answer), By("desk", desk))?;
     let kinds = O::kinds(&input, &own.answer);
-    tally.count(own.answer.refused(), &own.due, &kinds);
+    let given = own.due.first().copied().unwrap_or(Refused::ANSWERED);
+    tally.count(given, &own.due, &kinds);
     Ok(())
 }

@@ -2,6 +2,7 @@
 //! word 1 + i the coefficient of x^i.
 
 use crate::polynomial::{Polynomial, PLACES};
+use std::fmt;
 
 pub const RECORD_BYTES: usize = 512;
 
@@ -46,6 +47,12 @@ impl Record {
         let weights = [0, 8, 16, 24];
         let low_first = |word: u32| weights.map(|shift| (word >> shift) as u8);
         words.into_iter().flat_map(low_first).collect()
+    }
+}
+
+impl fmt::Display for Record {
+    fn fmt(&self, out: &mut fmt::Formatter) -> fmt::Result {
+        write!(out, "m {}, {}", self.modulus, self.f)
     }
 }
 

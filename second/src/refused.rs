@@ -7,6 +7,18 @@ pub const NEITHER: u32 = 0;
 pub const FIRST: u32 = 1;
 pub const SECOND: u32 = 2;
 
+/// "Nos. 2 to 4 carry the place here" (request No. 2): in a chain sheet the
+/// place, from 0, stands where "first" and "second" stand. The desk hands it
+/// over with 16 added, so that no place looks like "neither" or "first".
+pub const fn at_place(place: usize) -> u32 {
+    PLACE_0 + place as u32
+}
+
+const PLACE_0: u32 = 16;
+const PLACE_WORDS: [&str; 6] = [
+    "place 0", "place 1", "place 2", "place 3", "place 4", "place 5",
+];
+
 /// The triple as the desk hands it over in C. Number 0 means answered.
 #[repr(C)]
 #[derive(Clone, Copy, Debug, PartialEq, Eq, PartialOrd, Ord)]
@@ -49,6 +61,11 @@ impl Refused {
         Refused::about(self.number, self.polynomial)
     }
 
+    /// The same line about another polynomial, or about a place.
+    pub const fn renamed(self, polynomial: u32) -> Refused {
+        Refused { polynomial, ..self }
+    }
+
     /// The line in few letters: "No. 2 first".
     pub fn brief(self) -> String {
         match (self.number, self.polynomial) {
@@ -64,8 +81,13 @@ fn word_for(polynomial: u32) -> &'static str {
         NEITHER => "neither",
         FIRST => "first",
         SECOND => "second",
-        _ => "no such polynomial",
+        _ => place_word(polynomial).unwrap_or("no such polynomial"),
     }
+}
+
+fn place_word(polynomial: u32) -> Option<&'static str> {
+    let place = polynomial.checked_sub(PLACE_0)?;
+    PLACE_WORDS.get(place as usize).copied()
 }
 
 impl fmt::Display for Refused {

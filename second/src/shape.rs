@@ -91,6 +91,11 @@ fn pair(random: &mut Random) -> Shape {
 /// 2 to 6 parts.
 fn chain(random: &mut Random) -> Shape {
     let count = random.between(2, 6);
+    Shape::Planted(chain_degrees(count, random))
+}
+
+/// The degrees of 1 to 6 parts, with a product of 126 at most.
+pub fn chain_degrees(count: usize, random: &mut Random) -> Vec<usize> {
     let mut degrees = vec![2; count];
     for _ in 0..random.between(0, count) {
         let place = random.between(0, count - 1);
@@ -100,7 +105,7 @@ fn chain(random: &mut Random) -> Shape {
         let top = random.pick(&[3, 5, room]).min(room);
         degrees[place] = random.between(2, top);
     }
-    Shape::Planted(degrees)
+    degrees
 }
 
 fn planted(degrees: &[usize], m: u32, random: &mut Random) -> Polynomial {

@@ -1,7 +1,7 @@
 //! The worked polynomials of 01, constant term first, and what they say about
 //! this program's own arithmetic.
 
-use crate::composition::composed;
+use crate::composition::{chain_composed, composed};
 use crate::polynomial::Polynomial;
 
 /// As 01 writes them: [10,3,6,7,6,3,1].
@@ -69,15 +69,21 @@ const CHAINS: [Chain; 8] = [
     },
 ];
 
-/// The parts composed, where both of this program's ways agree on it.
+/// The parts composed, where all of this program's ways agree on it.
 fn whole_of(chain: &Chain) -> Option<Polynomial> {
-    let mut parts = chain.parts.iter().map(|part| Polynomial::of(part));
-    let first = parts.next()?;
-    parts.try_fold(first, |left, right| {
-        let by_horner = left.compose(&right, chain.whole.0)?;
-        let by_halves = composed(&left, &right, chain.whole.0);
+    let m = chain.whole.0;
+    let parts: Vec<_> = chain
+        .parts
+        .iter()
+        .map(|part| Polynomial::of(part))
+        .collect();
+    let (first, others) = parts.split_first()?;
+    let whole = others.iter().try_fold(first.clone(), |left, right| {
+        let by_horner = left.compose(right, m)?;
+        let by_halves = composed(&left, right, m);
         (by_horner == by_halves).then_some(by_horner)
-    })
+    })?;
+    (chain_composed(&parts, m) == whole).then_some(whole)
 }
 
 /// The parts compose to the polynomial, by this program's own arithmetic. A

@@ -189,7 +189,7 @@ pub fn chained(area: &[u32], chain: &decomposition::Chain) -> Chained {
 
 /// The area with these parts in it: "unused places are zero", and "words past
 /// 762 never change".
-fn filled(area: &[u32], parts: &[Polynomial]) -> Vec<u32> {
+pub fn filled(area: &[u32], parts: &[Polynomial]) -> Vec<u32> {
     let mut after = area.to_vec();
     after[..AREA_WORDS].fill(0);
     for (place, part) in after.chunks_mut(PLACES).zip(parts) {
@@ -219,13 +219,17 @@ pub fn nearly_at_times(shape: &Shape, m: u32, random: &mut Random) -> Polynomial
     }
 }
 
-/// An area with garbage in it, or with zeros.
-pub fn any_area(short: bool, random: &mut Random) -> Vec<u32> {
+pub fn area_length(short: bool, random: &mut Random) -> usize {
     let any = random.between(0, 760);
-    let length = match short {
+    match short {
         true => random.pick(&[0, 1, 127, 635, 761, 761, any]),
         false => random.pick(&[762, 762, 763, 800, 762 + any]),
-    };
+    }
+}
+
+/// An area with garbage in it, or with zeros.
+pub fn any_area(short: bool, random: &mut Random) -> Vec<u32> {
+    let length = area_length(short, random);
     let zeros = random.once_in(8);
     let word = |_| if zeros { 0 } else { garbage(random) };
     (0..length).map(word).collect()

@@ -1,0 +1,124 @@
+//! Chain sheets by request No. 2: "six records, left to right; places not used
+//! are 512 zero bytes".
+
+pub mod damage;
+pub mod inputs;
+pub mod kinds;
+
+use crate::answer::{SHEET_BYTES, TOP_PARTS};
+use crate::composition::chain_composed;
+use crate::operation::chain::filled;
+use crate::polynomial::{Polynomial, PLACES, TOP_DEGREE};
+use crate::record::{Record, RECORD_BYTES};
+use crate::refused::Refused;
+use std::fmt;
+
+/// A lent sheet or area is too short.
+pub const SHORT: Refused = Refused::plain(11);
+/// "The used places are not the first ones, none is used, or the moduli
+/// differ."
+pub const MISPLACED: Refused = Refused::plain(12);
+/// "The composed degree is above 126."
+pub const TOO_HIGH: Refused = Refused::plain(10);
+
+/// The six places of a chain as a sheet or an area shows them, right or wrong;
+/// nothing where a place is not used.
+pub struct Places(pub [Option<Record>; TOP_PARTS]);
+
+impl Places {
+    /// In a sheet a place is used if any of its 512 bytes is not zero. Bytes
+    /// that are missing are taken for zeros.
+    pub fn of_sheet(sheet: &[u8]) -> Places {
+        let mut places = Places(Default::default());
+        let records = sheet.chunks(RECORD_BYTES);
+        for (place, bytes) in places.0.iter_mut().zip(records) {
+            let used = bytes.iter().any(|&byte| byte != 0);
+            *place = used.then(|| Record::read_padded(bytes));
+        }
+        places
+    }
+
+    /// In an area a place is used if any of its 127 words is not zero. Words
+    /// that are missing are taken for zeros.
+    pub fn of_area(modulus: u32, area: &[u32]) -> Places {
+        let mut places = Places(Default::default());
+        for (place, words) in places.0.iter_mut().zip(area.chunks(PLACES)) {
+            let f = Polynomial::of(words);
+            *place = f.degree().map(|_| Record { modulus, f });
+        }
+        places
+    }
+
+    /// The used places from the left, each with its number.
+    pub fn used(&self) -> impl Iterator<Item = (usize, &Record)> {
+        let places = self.0.iter().enumerate();
+        places.filter_map(|(place, record)| Some((place, record.as_ref()?)))
+    }
+
+    /// What stands at the used places, left to right.
+    pub fn parts(&self) -> Vec<Polynomial> {
+        self.used().map(|(_, record)| record.f.clone()).collect()
+    }
+
+    /// The modulus of the leftmost record; 0 where no place is used.
+    pub fn modulus(&self) -> u32 {
+        self.used().next().map_or(0, |(_, record)| record.modulus)
+    }
+
+    pub fn moduli_differ(&self) -> bool {
+        let first = self.modulus();
+        self.used().any(|(_, record)| record.modulus != first)
+    }
+
+    /// "The used places are not the first ones, none is used": counted from the
+    /// left, they would be places 0, 1, 2 and so on.
+    pub fn not_the_first(&self) -> bool {
+        let mut counted = self.used().enumerate().peekable();
+        counted.peek().is_none() || counted.any(|(count, (place, _))| count != place)
+    }
+
+    /// The product of the degrees that the used places show, right or wrong.
+    pub fn composed_degree(&self) -> usize {
+        let degree = |f: &Polynomial| f.degree().unwrap_or(0);
+        self.parts().iter().map(degree).product()
+    }
+
+    pub fn too_high(&self) -> bool {
+        self.composed_degree() > TOP_DEGREE
+    }
+
+    /// The parts composed, where nothing is refused.
+    pub fn composed(&self) -> Polynomial {
+        chain_composed(&self.parts(), self.modulus())
+    }
+
+    /// These places in an area: all its first 762 words are another's then,
+    /// "words past 762 never change".
+    pub fn in_area(&self, area: &[u32]) -> Vec<u32> {
+        let part = |place: &Option<Record>| place.as_ref().map(|record| record.f.clone());
+        let parts = self.0.each_ref().map(part);
+        filled(area, &parts.map(|part| part.unwrap_or(Polynomial::ZERO)))
+    }
+
+    /// These places in a sheet: "bytes past 3,072 never change".
+    pub fn in_sheet(&self, sheet: &[u8]) -> Vec<u8> {
+        let mut after = sheet.to_vec();
+        after[..SHEET_BYTES].fill(0);
+        for (place, record) in self.used() {
+            after[place * RECORD_BYTES..][..RECORD_BYTES].copy_from_slice(&record.bytes());
+        }
+        after
+    }
+}
+
+impl fmt::Display for Places {
+    fn fmt(&self, out: &mut fmt::Formatter) -> fmt::Result {
+        for (place, record) in self.0.iter().enumerate() {
+            match record {
+                Some(record) => writeln!(out, "  place {place}: {record}")?,
+                None => writeln!(out, "  place {place}: not used")?,
+            }
+        }
+        Ok(())
+    }
+}
