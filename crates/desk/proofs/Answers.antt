@@ -10,6 +10,8 @@
 --   face-undo                desk_undo
 --   face-chain               desk_chain
 --   face-part                desk_part
+--   face-write-sheet         desk_write_sheet
+--   face-read-sheet          desk_read_sheet
 -- They follow from the operations' own laws:
 --   answer-face-unique, parts-face-unique, made-face-unique     where an operation's contract determines its answer, so does that of its face
 --   place-empty, place-full                                     where a part stands
@@ -29,7 +31,10 @@ use Rattle.change.proofs.Determined.{change-polynomial-determined, change-pair-
 use Rattle.area.specs.Area.{start, part-of}
 use Rattle.chain.specs.declared.Chained.{Chained}
 use Rattle.chain.proofs.Promises.{chain-determined}
-use Rattle.desk.specs.Face.{told, CheckedAs, AnswersAs, PartsAs, MadeAs, ChainedAs, start-of, place-of}
+use Rattle.refusal.specs.declared.Outcome.{Outcome}
+use Rattle.sheet.specs.declared.Contents.{Contents}
+use Rattle.sheet.proofs.Promises.{write-determined, read-determined}
+use Rattle.desk.specs.Face.{told, CheckedAs, AnswersAs, PartsAs, MadeAs, ChainedAs, WrittenAs, ReadAs, start-of, place-of}
 use Rattle.desk.specs.declared.Refused.{Refused}
 
 -- where an operation's contract determines its answer, so does that of its face
@@ -98,6 +103,21 @@ face-chain lf x y =
 
 pub face-part : (xs : List ℕ) (i : ℕ) {place place′ : List ℕ} → place ≡ place-of xs i → place′ ≡ place-of xs i → place ≡ place′
 face-part xs i e e′ = e ∙ sym e′
+
+-- with every byte of the sheet
+pub face-write-sheet : {w : ℕ} {xs b c d : List ℕ} {r r′ : Refused} → WrittenAs w xs b c r → WrittenAs w xs b d r′ → (r ≡ r′) × (c ≡ d)
+face-write-sheet x y = let (e, sheet) = write-determined (x .is) (y .is) in (x .refused ∙ ap told e ∙ sym (y .refused), sheet)
+
+-- with every word of the area
+pub face-read-sheet : {b xs ys zs f f′ : List ℕ} {r r′ : Refused} {m m′ : ℕ} → ReadAs b xs ys r m f → ReadAs b xs zs r′ m′ f′
+    → (r ≡ r′) × (m ≡ m′) × (f ≡ f′) × (ys ≡ zs)
+face-read-sheet x y =
+    let (e, area) = read-determined (x .is) (y .is) in (
+      x .refused ∙ ap (λ (a : Contents). told (a .outcome)) e ∙ sym (y .refused),
+      x .modulus-is ∙ ap (λ (a : Contents). a .modulus) e ∙ sym (y .modulus-is),
+      x .f-is ∙ ap (λ (a : Contents). a .polynomial) e ∙ sym (y .f-is),
+      area,
+    )
 
 -- the place of an empty part, and of any other
 pub place-empty : (xs : List ℕ) (i : ℕ) → length (part-of xs i) ≡ 0 → 0 ∷ 0 ∷ [] ≡ place-of xs i

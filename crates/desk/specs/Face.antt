@@ -6,6 +6,8 @@
 --   MadeAs Of r out     the same for an operation that answers a change: its unit and its origin
 --   PartsAs Of r g h    the same for an operation that answers two parts
 --   ChainedAs ..        what desk_chain returns and writes
+--   WrittenAs ..        what desk_write_sheet returns and writes
+--   ReadAs ..           what desk_read_sheet returns and writes
 --   place-of xs i       where part i stands in the area xs: its start and its length, 0 and 0 if it is empty
 use mathlib.Core.Path.{_≡_}
 use mathlib.Core.List.{List, [], _∷_}
@@ -21,6 +23,8 @@ use Rattle.chain.specs.declared.Chained.{Chained}
 use Rattle.chain.specs.Chaining.{ChainOf}
 use Rattle.area.specs.Area.{start, part-of}
 use Rattle.record.specs.Record.{checked}
+use Rattle.sheet.specs.declared.Contents.{Contents}
+use Rattle.sheet.specs.Answers.{ReadsSheet, WritesSheet}
 use Rattle.desk.specs.declared.Refused as face
 
 -- 01's numbers of an outcome
@@ -63,6 +67,20 @@ pub record ChainedAs (m : ℕ) (f xs ys : List ℕ) (r : face.Refused) (numbers 
   pub is : ChainOf m f xs ys chained
   pub refused : r ≡ told (chained .outcome)
   pub numbers-are : numbers ≡ chained .parts ∷ chained .tries ∷ chained .price ∷ []
+
+-- some outcome of the writer, in numbers; and the sheet afterwards
+pub record WrittenAs (w : ℕ) (xs b c : List ℕ) (r : face.Refused) : Type 0 where
+  pub outcome : Outcome
+  pub is : WritesSheet w xs b c outcome
+  pub refused : r ≡ told outcome
+
+-- some contents of a sheet, in numbers; and the area afterwards
+pub record ReadAs (b xs ys : List ℕ) (r : face.Refused) (modulus : ℕ) (f : List ℕ) : Type 0 where
+  pub contents : Contents
+  pub is : ReadsSheet b xs ys contents
+  pub refused : r ≡ told (contents .outcome)
+  pub modulus-is : modulus ≡ contents .modulus
+  pub f-is : f ≡ contents .polynomial
 
 -- an empty part stands nowhere
 abbrev pub start-of : ℕ → ℕ → ℕ

@@ -3,12 +3,13 @@ ghost use mathlib.Core.Path.{_≡_};
 ghost use Rattle.polynomial.specs.Moduli.{modulus};
 ghost use Rattle.pair.specs.Pairing.{compose, LeftPartOf, Splits};
 ghost use Rattle.change.specs.Changing.{made, ChangesPolynomial, ChangesPair, Combines, Undoing};
-ghost use Rattle.desk.specs.Face.{told as told-of, CheckedAs, AnswersAs, PartsAs, MadeAs, ChainedAs, place-of};
+ghost use Rattle.desk.specs.Face.{told as told-of, CheckedAs, AnswersAs, PartsAs, MadeAs, ChainedAs, place-of, WrittenAs, ReadAs};
 use change::Change;
 use polynomial::TERMS;
 use refusal::Outcome;
 
-// A refusal in 01's numbers: number 0 if the request was answered; polynomial 0 neither, 1 the first, 2 the second.
+// A refusal in 01's numbers: number 0 if the request was answered; polynomial 0 neither, 1 the first, 2 the second, 16 + i the one in
+// place i of a sheet.
 #[repr(C)]
 pub struct Refused {
     pub number: u32,
@@ -209,4 +210,31 @@ pub extern "C" fn desk_part(area: &[u32], i: usize, place: &mut [usize; 2])
         return;
     }
     *place = [area::start(i), n];
+}
+
+// The sheet of the modulus m and the parts of an area.
+#[no_mangle]
+pub extern "C" fn desk_write_sheet(m: u32, area: &[u32], sheet: &mut [u8]) -> Refused
+    ensures { λ r. ⌜ WrittenAs m (now (area .entry)) (now (sheet .entry)) (now (sheet .exit)) r ⌝ }
+{
+    let outcome = sheet::write(m, area, sheet);
+    told(outcome)
+}
+
+// A sheet into an area: its modulus, and what its parts compose to; zeros after a refusal.
+#[no_mangle]
+pub extern "C" fn desk_read_sheet(
+    sheet: &[u8],
+    area: &mut [u32],
+    modulus: &mut u32,
+    f: &mut [u32; TERMS],
+) -> Refused
+    ensures { λ r. ⌜ ReadAs (now (sheet .entry)) (now (area .entry)) (now (area .exit)) r (now (modulus .exit)) (now (f .exit)) ⌝ }
+{
+    let x = sheet::read(sheet, area);
+    let p = x.polynomial;
+    *modulus = x.modulus;
+    *f = p;
+    let outcome = x.outcome;
+    told(outcome)
 }
