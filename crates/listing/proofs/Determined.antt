@@ -10,34 +10,27 @@ use mathlib.Core.Path.{_≡_, sym, ap, ap₂, _∙_}
 use mathlib.Core.List.{List, [], _∷_, _++_}
 use Prim.Native.Nat.{ℕ, _+_, _≤_, _<_}
 use native.Mathlib.Omega.{arith}
-use lib.Dec.{ltb}
 use lib.ListN.{length, length-replicate}
 use lib.Seq.{sets}
 use Rattle.algebra.specs.Number.{Coprime}
-use Rattle.algebra.specs.Polynomial.{degree, terms}
+use Rattle.algebra.specs.Polynomial.{degree}
 use Rattle.algebra.specs.Chain.{Chain, degrees, price}
-use Rattle.algebra.proofs.Numbers.{table-length}
-use Rattle.refusal.specs.Refusal.{number, refuse}
-use Rattle.refusal.specs.declared.Concerns.the-variants.{Neither}
-use Rattle.refusal.specs.declared.Reason.the-variants.{Factor, Short}
+use Rattle.refusal.specs.Refusal.{number}
+use Rattle.refusal.specs.declared.Reason.the-variants.{Factor}
 use Rattle.refusal.specs.declared.Outcome.{Outcome}
 use Rattle.refusal.specs.declared.Outcome.the-variants.{Answered}
-use Rattle.refusal.proofs.Outcomes.{never, then-both}
+use Rattle.refusal.proofs.Outcomes.{never}
 use Rattle.polynomial.specs.Moduli.{modulus}
-use Rattle.polynomial.specs.Checks.{check-one}
 use Rattle.polynomial.proofs.Acceptance.{accepted-above}
 use Rattle.area.specs.Area.{area-words}
 use Rattle.area.proofs.Reading.{part-fills}
 use Rattle.chain.specs.declared.Chained.{Chained}
 use Rattle.chain.proofs.Promises.{chain-determined, chain-exact, Complete, chain-complete}
-use Rattle.record.specs.Record.{word, record-bytes, coefficients, check-record}
+use Rattle.record.specs.Record.{word, coefficients, check-record}
+use Rattle.record.proofs.Answers.{coefficients-long, one-checked}
 use Rattle.listing.specs.Text.{fields, Put}
 use Rattle.listing.specs.Listing.{blank, chain-numbers, Line, refused, chained, Lines, none, more, number-of, LineIn, LinesIn}
 use Rattle.listing.proofs.Places.{left-to-right, written-degrees}
-
-coefficients-long : (b : List ℕ) → length (coefficients b) ≡ terms
-unfolding coefficients
-coefficients-long b = table-length terms _
 
 module _ {b : List ℕ} {k : ℕ} {text text′ : List ℕ} where
   -- the line of a record is determined
@@ -72,11 +65,6 @@ module _ {b : List ℕ} {k : ℕ} {xs ys ys′ : List ℕ} {r r′ : ℕ} where
   -- and for several
   pub lines-unique : LinesIn b k xs ys r → LinesIn b k xs ys′ r′ → (ys ≡ ys′) × (r ≡ r′)
   lines-unique x y = put-determined (lines-determined (x .lines) (y .lines)) (x .put) (y .put)
-
--- what passes the record check passes the checks of one polynomial
-one-checked : (b : List ℕ) → check-record b ≡ Answered → check-one (modulus (word b 0)) (coefficients b) ≡ Answered
-unfolding check-record
-one-checked b h = then-both (refuse (ltb (length b) record-bytes) Neither Short) _ h .1
 
 -- the numbers of an answer: those of 01's chain
 answer-numbers : {m : ℕ} {f xs ys : List ℕ} {x : Chained} {parts : List (List ℕ)} → Complete m f xs ys x parts → x .outcome ≡ Answered

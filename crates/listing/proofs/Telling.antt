@@ -2,7 +2,6 @@
 --
 --   Fitting, told-answered           the numbers of an answered chain fit a line
 --   told-unchained, told-chained     an accepted record: its chain is refused; it has one
---   check-answered                   what an accepting record check has found
 --   told-refused, told-accepted      a record that its check refuses; one that it accepts
 use mathlib.Core.Path.{_≡_, refl, ap, _∙_}
 use mathlib.Core.Bool.{Bool, true, false}
@@ -15,7 +14,7 @@ use Rattle.algebra.specs.Polynomial.{degree, terms, limit}
 use Rattle.refusal.specs.Refusal.{is-refused}
 use Rattle.refusal.specs.declared.Outcome.{Outcome}
 use Rattle.refusal.specs.declared.Outcome.the-variants.{Answered, Refused}
-use Rattle.refusal.proofs.Outcomes.{answered, a-refusal, refused-by, passed-on}
+use Rattle.refusal.proofs.Outcomes.{answered, a-refusal, refused-by}
 use Rattle.polynomial.specs.Moduli.{modulus}
 use Rattle.polynomial.proofs.Acceptance.{accepted-above, degree-fits}
 use Rattle.area.specs.Area.{most-parts, place, laid}
@@ -24,7 +23,8 @@ use Rattle.chain.specs.Chaining.{ChainOf}
 use Rattle.chain.proofs.Placing.{chained-within}
 use Rattle.chain.proofs.Promises.{chain-complete}
 use Rattle.record.specs.declared.Checked.{Checked}
-use Rattle.record.specs.Record.{word, coefficients, check-record, no-record, answer, checked}
+use Rattle.record.specs.Record.{checked}
+use Rattle.record.proofs.Answers.{check-outcome, check-answered}
 use Rattle.listing.specs.Text.{most-line, fields, Put}
 use Rattle.listing.specs.Listing.{blank, number-of, LineIn, AcceptedIn}
 use Rattle.listing.specs.Listing as of
@@ -57,31 +57,14 @@ module _ {m : ℕ} {f ys : List ℕ} {x : Chained} (is : ChainOf (modulus m) f b
 
 -- ---- the record check
 
-answer-outcome : (o : Outcome) (b : List ℕ) → answer o b .outcome ≡ o
-unfolding no-record
-answer-outcome Answered b = refl
-answer-outcome (Refused r) b = refl
-
 module _ (b : List ℕ) {x : Checked} (is : x ≡ checked b) where
-  outcome-is : x .outcome ≡ check-record b
-  unfolding checked
-  outcome-is = ap (λ (x : Checked). x .outcome) is ∙ answer-outcome (check-record b) b
-
   module _ {t : Bool} (tells : t ≡ is-refused (x .outcome)) where
     -- refused: its number is in the line
     pub told-refused : {k v q : ℕ} {before after : List ℕ} → t ≡ true → v ≡ number-of (x .outcome) → Put before 0 (fields k (v ∷ [])) most-line after q → LineIn b k before after q
     told-refused {k} {v} h e p =
-        let (r, c, o) = refused-by outcome-is tells h in
+        let (r, c, o) = refused-by (check-outcome b is) tells h in
         record { text = fields k (v ∷ []); line = of.refused c (ap (λ (n : ℕ). fields k (n ∷ [])) (e ∙ ap number-of o)); put = p }
-
-    -- accepted: what the answer holds
-    pub check-answered : t ≡ false → (check-record b ≡ Answered) × (x .modulus ≡ word b 0) × (x .polynomial ≡ coefficients b) × (x .degree ≡ degree (coefficients b))
-    unfolding checked
-    check-answered h =
-        let ok = passed-on outcome-is tells h in
-        let y : x ≡ answer Answered b = is ∙ ap (λ (o : Outcome). answer o b) ok in
-        (ok, ap (λ (x : Checked). x .modulus) y, ap (λ (x : Checked). x .polynomial) y, ap (λ (x : Checked). x .degree) y)
 
     -- the line of what the answer holds is the record's
     pub told-accepted : {k q : ℕ} {before after : List ℕ} → t ≡ false → AcceptedIn (x .modulus) (x .polynomial) k before after q → LineIn b k before after q
-    told-accepted h z = let (ok, m, f, n) = check-answered h in record { text = _; line = of.chained ok (rw (m, f) at (z .chain)) refl; put = rw f at (z .put) }
+    told-accepted h z = let (ok, m, f, n) = check-answered b is tells h in record { text = _; line = of.chained ok (rw (m, f) at (z .chain)) refl; put = rw f at (z .put) }

@@ -3,27 +3,32 @@
 --   short-checked      fewer bytes than a record has: No. 9 and nothing else is the answer
 --   refused-checked    a whole record, and its checks refuse: their refusal and nothing else is the answer
 --   answered-checked   a whole record, and its checks pass: its words and the degree are the answer
+--   coefficients-long  how many coefficients a record has
+--   check-outcome      the answer's outcome is that of the checks
+--   check-answered     what an accepting record check has found
+--   one-checked        what passes the record check passes the checks of one polynomial
 --   check-unique       two answers that satisfy the contract are equal
 --   first-bytes        the answer comes from the first record-bytes bytes
 use mathlib.Core.Path.{_≡_, refl, sym, _∙_, ap}
-use mathlib.Core.Bool.{true, false}
+use mathlib.Core.Bool.{Bool, true, false}
 use mathlib.Core.List.{List}
 use Prim.Native.Nat.{ℕ, _+_, _*_, _≤_, _<_}
 use native.Mathlib.Decide.{decLe}
 use native.Mathlib.Omega.{arith}
 use borrow.Author.Tests.{lt-ltb, le-ltb}
+use lib.Dec.{ltb}
 use lib.ListN.{length, take}
 use lib.Seq.{getD-take, take-all, length-take-le}
 use Rattle.algebra.specs.Polynomial.{terms, degree}
-use Rattle.refusal.specs.Refusal.{refusal, is-refused}
+use Rattle.refusal.specs.Refusal.{refusal, refuse, is-refused}
 use Rattle.refusal.specs.declared.Concerns.the-variants.{Neither}
 use Rattle.refusal.specs.declared.Reason.the-variants.{Short}
 use Rattle.refusal.specs.declared.Outcome.{Outcome}
 use Rattle.refusal.specs.declared.Outcome.the-variants.{Answered, Refused}
-use Rattle.refusal.proofs.Outcomes.{answered}
+use Rattle.refusal.proofs.Outcomes.{answered, then-both, passed-on}
 use Rattle.polynomial.specs.Moduli.{modulus}
 use Rattle.polynomial.specs.Checks.{check-one}
-use Rattle.algebra.proofs.Numbers.{table-ext}
+use Rattle.algebra.proofs.Numbers.{table-length, table-ext}
 use Rattle.record.specs.Record.{word, record-bytes, coefficients, check-record, no-record, answer, checked}
 use Rattle.record.specs.declared.Checked.{Checked}
 
@@ -55,6 +60,35 @@ module _ (b : List ℕ) where
         → _≡_ {A = Checked} (record { outcome = o; modulus = w; polynomial = f; degree = n }) (checked b)
     unfolding checked
     answered-checked n-is h = simp (outcome, answered {a = o} h, n-is, ← w-is, ← f-is)
+
+pub coefficients-long : (b : List ℕ) → length (coefficients b) ≡ terms
+unfolding coefficients
+coefficients-long b = table-length terms _
+
+answer-outcome : (o : Outcome) (b : List ℕ) → answer o b .outcome ≡ o
+unfolding no-record
+answer-outcome Answered b = refl
+answer-outcome (Refused r) b = refl
+
+module _ (b : List ℕ) {x : Checked} (is : x ≡ checked b) where
+  -- its outcome is that of the checks
+  pub check-outcome : x .outcome ≡ check-record b
+  unfolding checked
+  check-outcome = ap (λ (x : Checked). x .outcome) is ∙ answer-outcome (check-record b) b
+
+  -- accepted: what the answer holds
+  pub check-answered : {t : Bool} → t ≡ is-refused (x .outcome) → t ≡ false
+      → (check-record b ≡ Answered) × (x .modulus ≡ word b 0) × (x .polynomial ≡ coefficients b) × (x .degree ≡ degree (coefficients b))
+  unfolding checked
+  check-answered tells h =
+      let ok = passed-on check-outcome tells h in
+      let y : x ≡ answer Answered b = is ∙ ap (λ (o : Outcome). answer o b) ok in
+      (ok, ap (λ (x : Checked). x .modulus) y, ap (λ (x : Checked). x .polynomial) y, ap (λ (x : Checked). x .degree) y)
+
+-- what passes the record check passes the checks of one polynomial
+pub one-checked : (b : List ℕ) → check-record b ≡ Answered → check-one (modulus (word b 0)) (coefficients b) ≡ Answered
+unfolding check-record
+one-checked b h = then-both (refuse (ltb (length b) record-bytes) Neither Short) _ h .1
 
 -- two answers that satisfy the contract are equal
 pub check-unique : (b : List ℕ) {x y : Checked} → x ≡ checked b → y ≡ checked b → x ≡ y

@@ -7,35 +7,44 @@
 --   parts-read              and read again they give the area, and what they compose to
 --   chain-written           so is the area of a chain
 --   chain-read              and read again it gives the area and the f that it came from
+--   chain-sheet             the same for the sheet alone
+--   unused-refused, blank-refused     a sheet with no used place is refused by No. 12; so are zero bytes
 --   read-write              an accepted sheet, read and written: the same bytes
 --   read-back               written over itself, it does not change
 use mathlib.Core.Path.{_≡_, refl, sym, ap, ap₂, subst, _∙_}
-use mathlib.Core.List.{List, _++_}
-use Prim.Native.Nat.{ℕ, _^_, _≤_, _<_}
+use mathlib.Core.Bool.{Bool, false, not}
+use mathlib.Core.List.{List, _++_, append-nil}
+use Prim.Native.Nat.{ℕ, _+_, _*_, _^_, _≤_, _<_}
 use native.Mathlib.Omega.{arith}
-use lib.ListN.{length, take, drop, take-append-drop, length-append}
+use lib.ListN.{length, take, drop, replicate, take-append-drop, length-append, length-take, length-replicate, drop-of-length-le}
+use lib.Seq.{getD-take, getD-drop}
 use Rattle.algebra.specs.Polynomial.{limit, terms, reduced, Same, Reduced}
 use Rattle.algebra.specs.Chain.{composed, degrees, product}
 use Rattle.algebra.proofs.Polynomials.{same-sym}
 use Rattle.algebra.proofs.Reduction.{reduced-reduced}
+use Rattle.refusal.specs.Refusal.{refuse, refusal}
+use Rattle.refusal.specs.declared.Concerns.the-variants.{Neither}
+use Rattle.refusal.specs.declared.Reason.the-variants.{Sheet}
 use Rattle.refusal.specs.declared.Outcome.{Outcome}
 use Rattle.refusal.specs.declared.Outcome.the-variants.{Answered}
 use Rattle.refusal.proofs.Outcomes.{never, then-both}
 use Rattle.polynomial.specs.Moduli.{modulus, check-modulus}
 use Rattle.polynomial.proofs.Acceptance.{accepted-modulus}
+use Rattle.polynomial.proofs.Filling.{zeros}
 use Rattle.area.specs.Area.{most-parts, area-words, place, written}
 use Rattle.record.specs.Record.{word, record-bytes}
 use Rattle.chain.specs.declared.Chained.{Chained}
 use Rattle.chain.specs.Chaining.{ChainOf}
 use Rattle.chain.proofs.Promises.{chain-complete}
 use Rattle.sheet.specs.Sheet.{sheet-bytes, record-at, used, recorded, sheet-of, held, area-of, parts-in}
-use Rattle.sheet.specs.Checks.{check-room, check-sheet, check-area, check-writer}
+use Rattle.sheet.specs.Checks.{in-order, check-room, check-order, check-placed, check-records, check-sheet, check-area, check-writer}
 use Rattle.sheet.specs.Answers.{unread, ReadsSheet, WritesSheet}
 use Rattle.sheet.specs.Answers as of
 use Rattle.sheet.specs.Steps.{Parted}
 use Rattle.sheet.specs.declared.Contents.{Contents}
+use Rattle.sheet.proofs.Zeros.{at-zero}
 use Rattle.sheet.proofs.Joining.{joined-ext, joined-length, pieces}
-use Rattle.sheet.proofs.Checking.{parts-ext}
+use Rattle.sheet.proofs.Checking.{each-none, each-stop, each-all, parts-ext}
 use Rattle.sheet.proofs.Words.{Bytes, recorded-long}
 use Rattle.sheet.proofs.Composing.{composed-same}
 use Rattle.sheet.proofs.Taking.{area-long, place-taken, used-same, records-parted, sheet-modulus, parted-ext}
@@ -61,6 +70,12 @@ read-determined (of.refused e h a q) (of.taken f g d r) = absurd (never h g)
 read-determined (of.taken e h a q) (of.short f d r) = absurd (never f e)
 read-determined (of.taken e h a q) (of.refused f g d r) = absurd (never g h)
 read-determined (of.taken e h a q) (of.taken f g d r) = (q ∙ sym r, a ∙ sym d)
+
+-- no place of zero bytes is used
+blank-unused : (i : ℕ) → i < most-parts → used (record-at (replicate sheet-bytes 0) i) ≡ false
+blank-unused i l = ap not (at-zero _ (λ j k.
+    getD-take record-bytes (drop (i * record-bytes) (replicate sheet-bytes 0)) j 0 (omega (arith, length-take record-bytes (drop (i * record-bytes) (replicate {A = ℕ} sheet-bytes 0))))
+    ∙ getD-drop (i * record-bytes) (replicate sheet-bytes 0) j 0 ∙ zeros sheet-bytes (i * record-bytes + j)))
 
 -- what an answer of the reader is
 record Read (b xs ys : List ℕ) (x : Contents) : Type 0 where
@@ -188,6 +203,37 @@ module _ {w : ℕ} {f ws xs : List ℕ} {y : Chained} (long : length f ≡ terms
   chain-read small r words =
       let (parts, k) = chain-complete long chain given in
       parts-read w (chain-parts k) ws (k .room) (k .area) wrote bytes small (k .accepted .reduced) (k .composes) r words
+
+-- the sheet of a chain's area alone
+pub chain-sheet : {w : ℕ} {f ws xs ys zs : List ℕ} {y : Chained} {x : Contents} → w < 2 ^ 32 → length f ≡ terms → ChainOf (modulus w) f ws xs y → y .outcome ≡ Answered
+    → ReadsSheet (sheet-of w xs) ys zs x → area-words ≤ length ys → Again w xs ys zs x × (x .polynomial ≡ f)
+unfolding check-writer
+chain-sheet {w} {f} {ws} {xs} small long chain given r words =
+    let (parts, k) = chain-complete long chain given in
+    let p = chain-parts k in
+    let bytes = sheet-long w xs in
+    let passes : check-writer w xs (sheet-of w xs) ≡ Answered
+    = simp (roomy {n = length (sheet-of w xs)} (omega arith) (laid-room p ws (k .room) (k .area))) (laid-passes p ws (k .room) (k .area) w refl) in
+    let whole : sheet-of w xs ≡ sheet-of w xs ++ drop sheet-bytes (sheet-of w xs)
+    = sym (ap (λ (l : List ℕ). sheet-of w xs ++ l) (drop-of-length-le (sheet-of w xs) {i = sheet-bytes} (omega arith)) ∙ append-nil (sheet-of w xs)) in
+    chain-read long chain given {b = sheet-of w xs} (of.made passes whole refl) (omega arith) small r words
+
+-- a sheet with no used place: No. 12
+pub unused-refused : (b : List ℕ) → ((i : ℕ) → i < most-parts → used (record-at b i) ≡ false) → check-sheet b ≡ refusal Neither Sheet
+unfolding check-sheet check-records check-placed check-order most-parts
+unused-refused b none =
+    let passes = each-all (λ i. check-placed (record-at b i) i) most-parts (λ i l. simp (none i l)) in
+    let first = none 0 (omega arith) in
+    let twelve : check-order (λ i. used (record-at b i)) ≡ refusal Neither Sheet
+    = sym (each-stop (λ i. refuse (not (in-order (λ i. used (record-at b i)) i)) Neither Sheet) most-parts 0 {o = refusal Neither Sheet} (omega arith) (each-none _) (sym (ap (λ (t : Bool). refuse (not t) Neither Sheet) first)) refl) in
+    simp (passes, twelve)
+
+-- so is a sheet of zero bytes
+pub blank-refused : {xs ys : List ℕ} {x : Contents} → ReadsSheet (replicate sheet-bytes 0) xs ys x → area-words ≤ length xs → x .outcome ≡ refusal Neither Sheet
+unfolding unread
+blank-refused (of.short e a q) words = absurd (never e (roomy (omega (arith, length-replicate {A = ℕ} sheet-bytes 0)) words))
+blank-refused (of.refused e h a q) words = ap (λ (x : Contents). x .outcome) q ∙ sym h ∙ unused-refused _ blank-unused
+blank-refused (of.taken e h a q) words = absurd (never (unused-refused _ blank-unused) h)
 
 -- an accepted sheet, read and written: the same bytes
 pub read-write : {b xs ys d c : List ℕ} {x : Contents} {o : Outcome} → Bytes b → ReadsSheet b xs ys x → x .outcome ≡ Answered → WritesSheet (x .modulus) ys d c o → sheet-bytes ≤ length d

@@ -34,12 +34,13 @@ use Rattle.polynomial.proofs.Acceptance.{accepted-above, accepted-polynomial, d
 use Rattle.area.specs.Area.{most-parts, area-words, place, cleared, all-zero}
 use Rattle.area.proofs.Reading.{part-fills}
 use Rattle.record.specs.Record.{word, record-bytes, coefficients}
+use Rattle.record.proofs.Answers.{coefficients-long}
 use Rattle.sheet.specs.Sheet.{record-at, used, joined, held, area-of}
 use Rattle.sheet.specs.Checks.{in-order, check-order, check-words, check-placed, check-records, check-moduli, check-part, check-parts}
 use Rattle.sheet.specs.Steps.{Rising, Parted}
 use Rattle.sheet.proofs.Joining.{joined-length, joined-past, piece}
 use Rattle.sheet.proofs.Checking.{each-at}
-use Rattle.sheet.proofs.Words.{coefficients-long, blank-held, used-words}
+use Rattle.sheet.proofs.Words.{blank-held, used-words}
 use Rattle.sheet.proofs.Handing.{place-long}
 
 pub held-long : (b : List ℕ) (i : ℕ) → length (held b i) ≡ terms

@@ -31,12 +31,13 @@ use Rattle.polynomial.proofs.Acceptance.{accepted-modulus, polynomial-accepted}
 use Rattle.area.specs.Area.{most-parts, area-words, place, all-zero}
 use Rattle.area.proofs.Reading as area
 use Rattle.record.specs.Record.{word, record-bytes, coefficients}
+use Rattle.record.proofs.Answers.{coefficients-long}
 use Rattle.sheet.specs.Sheet.{sheet-bytes, record-at, used, record-of, recorded, sheet-of, held, area-of}
 use Rattle.sheet.specs.Checks.{in-order, check-order, check-words, check-placed, check-records, check-moduli, check-part, check-parts, check-sheet, check-area}
 use Rattle.sheet.proofs.Zeros.{all-zeros}
 use Rattle.sheet.proofs.Joining.{joined-ext, piece, piece-long, pieces}
 use Rattle.sheet.proofs.Checking.{each-at, each-all, order-ext, product-ext}
-use Rattle.sheet.proofs.Words.{Bytes, bytes-piece, recorded-none, recorded-some, recorded-long, word-record, coefficients-record, coefficients-long, own-record, blank-held}
+use Rattle.sheet.proofs.Words.{Bytes, bytes-piece, recorded-none, recorded-some, recorded-long, word-record, coefficients-record, own-record, blank-held}
 use Rattle.sheet.proofs.Handing.{place-long}
 use Rattle.sheet.proofs.Taking.{used-first, place-taken, used-same, shared-accepted, same-modulus, sheet-modulus, part-accepted}
 use Rattle.sheet.proofs.Answering.{sheet-passes, area-passes}

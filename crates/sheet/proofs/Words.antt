@@ -1,13 +1,14 @@
 -- Words and bytes: the record of w and p, and back.
 --
 --   Bytes b, bytes-piece      numbers that are bytes, and those of a piece
+--   word-small                a word of bytes fits 32 bits
 --   word-piece                a word is that of its own four bytes
 --   four-stores               the four stores of a word
 --   word-first, word-next, word-last     the stores of a record
 --   word-record               the words of the record of w and p
 --   coefficients-record       and its polynomial
 --   own-record                the record of a record's own words is that record
---   record-long, recorded-long, coefficients-long      how long they are
+--   record-long, recorded-long      how long they are
 --   blank-held                a place that is not used holds zeros
 --   used-words                a record is used exactly if some word of it is not zero
 --   recorded-none, recorded-some     what is put into the place of a part that is not used, and of one that is
@@ -24,10 +25,11 @@ use lib.ListN.{length, take, drop, replicate, length-replicate, length-drop, len
 use lib.Seq.{ext-getD, getD-take, getD-drop, length-take-le, take-all, drop-drop, sets-eq}
 use Rattle.algebra.specs.Number.{table}
 use Rattle.algebra.specs.Polynomial.{coef, terms}
-use Rattle.algebra.proofs.Numbers.{table-length, table-below}
+use Rattle.algebra.proofs.Numbers.{table-below}
 use Rattle.area.specs.Area.{all-zero}
 use Rattle.area.proofs.Reading.{zero-at}
 use Rattle.record.specs.Record.{word, record-bytes, coefficients}
+use Rattle.record.proofs.Answers.{coefficients-long}
 use Rattle.sheet.specs.Sheet.{used, joined, bytes, record-of, recorded}
 use Rattle.sheet.specs.Steps.{put-word}
 use Rattle.sheet.proofs.Zeros.{at-zero}
@@ -44,6 +46,16 @@ bytes-piece {b} n k s = record { small = λ j. go j (decLt j n) }
     go : (j : ℕ) → Dec (j < n) → getD (take n (drop k b)) j 0 < 256
     go j (yes l) = rw (getD-take n (drop k b) j 0 l, getD-drop k b j 0) (s .small (k + j))
     go j (no l) = rw (List·getD-eq-default (take n (drop k b)) 0 {n = j} (omega (arith, length-take n (drop k b)))) (omega arith)
+
+-- a word of bytes
+pub word-small : {b : List ℕ} → Bytes b → (i : ℕ) → word b i < 2 ^ 32
+unfolding word
+word-small s i =
+    let a = s .small (4 * i) in
+    let b = s .small (4 * i + 1) in
+    let c = s .small (4 * i + 2) in
+    let d = s .small (4 * i + 3) in
+    omega arith
 
 -- byte c of word i
 byte-piece : (b : List ℕ) (i c : ℕ) → c < 4 → getD b (4 * i + c) 0 ≡ getD (take 4 (drop (i * 4) b)) c 0
@@ -110,10 +122,6 @@ word-record w p i l b =
     word-piece (record-of w p) i
     ∙ ap (λ (r : List ℕ). word (take 4 (drop (i * 4) r)) 0) (sym (append-nil (joined (terms + 1) (words w p))))
     ∙ ap (λ (r : List ℕ). word r 0) (piece (words w p) 4 (four w p) (terms + 1) i [] (omega arith)) ∙ word-bytes (coef (w ∷ p) i) b
-
-pub coefficients-long : (b : List ℕ) → length (coefficients b) ≡ terms
-unfolding coefficients
-coefficients-long b = table-length terms _
 
 -- the polynomial of a record, word by word
 coefficients-at : (b : List ℕ) (i : ℕ) → i < terms → coef (coefficients b) i ≡ word b (i + 1)

@@ -1,6 +1,7 @@
 use native.Mathlib.Omega.{arith}
 use borrow.Author.Needs.{needs}
-use Rattle.listing.proofs.Telling.{check-answered, told-refused, told-accepted}
+use Rattle.record.proofs.Answers.{check-answered}
+use Rattle.listing.proofs.Telling.{told-refused, told-accepted}
 use Rattle.listing.proofs.line.Statement.{statement}
 use Rattle.listing.proofs.line.Tie as tie
 

@@ -1,120 +1,70 @@
+use mathlib.Core.Path.{_≡_, refl, ap, subst, sym, _∙_}
+use mathlib.Core.List.{List, _++_}
+use Prim.Native.Nat.{ℕ, _+_, _*_, _-_, _≤_, min}
+use native.Mathlib.Omega.{arith}
+use lib.ListN.{length, take, drop, length-take, length-drop}
+use Rattle.area.specs.Area.{most-parts}
+use Rattle.algebra.specs.Polynomial.{limit, terms}
+use Rattle.record.specs.Record.{record-bytes}
+use Rattle.sheet.specs.Sheet.{sheet-bytes}
+use Rattle.sheets.specs.Sheets.{most-records, buffer-bytes, records}
+use Rattle.sheet.specs.Sheet.{record-at}
+use Rattle.sheets.specs.Sheets.{SheetOf}
+use Rattle.sheets.proofs.Pieces.{cut-short}
+use Rattle.sheets.proofs.Writing.{Begun, begun-none, begun-more, begun-all}
+use borrow.Author.Needs.{needs}
 use Rattle.sheets.proofs.sheets.Statement.{statement}
 use Rattle.sheets.proofs.sheets.Tie as tie
-use Rattle.sheets.proofs.sheets.Reads as reads
-use Rattle.sheets.proofs.sheets.Lts as lts
-use Rattle.polynomial.proofs.smaller.Reads as smaller-reads
-use Rattle.sheets.proofs.records.Reads as records-reads
-use Rattle.sheets.proofs.sheet_of.Reads as sheet-of-reads
 
 abbrev Inv-loop : tie.InvT-loop
-Inv-loop s out₀ n i₀ out i = ?
+Inv-loop s out₀ n i₀ out i = (i ≤ n) × (length out ≡ length out₀) × Begun s out₀ out i
 
 abbrev μ-loop : tie.MeasureT-loop
-μ-loop s out₀ n i₀ out i = ?
+μ-loop s out₀ n i₀ out i = n - i
 
--- src/main.rt:59:9
-records-requires : tie.Need-records-requires Inv-loop μ-loop
-records-requires c κs = ?
-
--- src/main.rt:60:5
 loop-holds : tie.Need-loop-holds Inv-loop μ-loop
-loop-holds c = ?
+loop-holds c = (omega arith, search needs, begun-none _ _)
 
--- src/main.rt:61:20
-mul-from : tie.Need-mul-from Inv-loop μ-loop
-mul-from c = ?
-
--- src/main.rt:62:39
-add-smaller : tie.Need-add-smaller Inv-loop μ-loop
-add-smaller c = ?
-
--- src/main.rt:62:13
-smaller-requires : tie.Need-smaller-requires Inv-loop μ-loop
-smaller-requires c κs = ?
-
--- src/main.rt:63:18
-mul-at : tie.Need-mul-at Inv-loop μ-loop
-mul-at c = ?
-
--- src/main.rt:64:18
-add-to : tie.Need-add-to Inv-loop μ-loop
-add-to c = ?
-
--- src/main.rt:65:18
-sub-sheet-of : tie.Need-sub-sheet-of Inv-loop μ-loop
-sub-sheet-of c = ?
-
--- src/main.rt:65:18
-part-sheet-of-start : tie.Need-part-sheet-of-start Inv-loop μ-loop
-part-sheet-of-start c = ?
-
--- src/main.rt:65:18
-part-sheet-of-end : tie.Need-part-sheet-of-end Inv-loop μ-loop
-part-sheet-of-end c = ?
-
--- src/main.rt:65:33
-sub-sheet-of-2 : tie.Need-sub-sheet-of-2 Inv-loop μ-loop
-sub-sheet-of-2 c = ?
-
--- src/main.rt:65:33
-part-sheet-of-start-2 : tie.Need-part-sheet-of-start-2 Inv-loop μ-loop
-part-sheet-of-start-2 c = ?
-
--- src/main.rt:65:33
-part-sheet-of-end-2 : tie.Need-part-sheet-of-end-2 Inv-loop μ-loop
-part-sheet-of-end-2 c = ?
-
--- src/main.rt:65:9
-sheet-of-requires : tie.Need-sheet-of-requires Inv-loop μ-loop
-sheet-of-requires c κs = ?
-
--- src/main.rt:60:9
-add-i : tie.Need-add-i Inv-loop μ-loop
-add-i c = ?
-
--- src/main.rt:60:5
-loop-less : tie.Need-loop-less Inv-loop μ-loop
-loop-less c = ?
-
--- src/main.rt:60:5
 loop-again : tie.Need-loop-again Inv-loop μ-loop
-loop-again c = ?
+unfolding records buffer-bytes most-records sheet-bytes record-bytes most-parts terms limit
+loop-again c =
+    let l = c .before .before .before .before .before .before .before .loop in
+    let a = c .before .before .before .before .before .before .before .before .before .before .before .args in
+    let e : l .i * sheet-bytes + sheet-bytes - l .i * sheet-bytes ≡ sheet-bytes = omega arith in
+    let new = subst (λ (r : List ℕ). SheetOf r (c .before .before .sheet-of .last .1 .0)) (ap (λ (n : ℕ). take (n - l .i * record-bytes) (drop (l .i * record-bytes) (a .s .now))) (c .before .before .before .before .before .smaller .ensures) ∙ cut-short (l .i * record-bytes) record-bytes (a .s .now)) (c .before .before .sheet-of .ensures) in
+    (omega arith, search needs, begun-more (a .s .now) (a .out .now) (l .i) (omega (arith, c .before .before .before .before .before .before .before .before .records .ensures)) (search needs) (l .inv .2) new (rw e refl))
 
--- src/main.rt:67:5
-mul-result : tie.Need-mul-result Inv-loop μ-loop
-mul-result c = ?
-
--- src/main.rt:55:1
-same-length : tie.Need-same-length Inv-loop μ-loop
-same-length c = ?
-
--- src/main.rt:55:1
 returns : tie.Need-returns Inv-loop μ-loop
-returns c = ?
+unfolding records buffer-bytes most-records sheet-bytes record-bytes most-parts terms limit
+returns c =
+    let l = c .before .loop in
+    let e = c .before .before .records .ensures in
+    begun-all _ _ {i = l .i} (omega arith) (omega arith) (omega arith) (l .inv .2)
 
 pub sheets-spec : {M : Type 1} → statement M
+unfolding records buffer-bytes most-records sheet-bytes record-bytes most-parts terms limit
 sheets-spec =
     tie.close
     (tie.spec
     Inv-loop
     μ-loop
-    records-requires
+    (λ c κs. search needs)
     loop-holds
-    mul-from
-    add-smaller
-    smaller-requires
-    mul-at
-    add-to
-    sub-sheet-of
-    part-sheet-of-start
-    part-sheet-of-end
-    sub-sheet-of-2
-    part-sheet-of-start-2
-    part-sheet-of-end-2
-    sheet-of-requires
-    add-i
-    loop-less
+    (λ c. omega (arith, c .before .before .records .ensures))
+    (λ c. omega (arith, c .before .before .records .ensures))
+    (λ c κs. search needs)
+    (λ c. omega (arith, c .before .before .before .records .ensures))
+    (λ c. omega (arith, c .before .before .before .records .ensures))
+    (λ c. omega (arith, c .smaller .ensures, c .before .before .before .records .ensures))
+    (λ c. omega (arith, c .smaller .ensures, c .before .before .before .records .ensures))
+    (λ c. omega (arith, c .smaller .ensures, c .before .before .before .records .ensures))
+    (λ c. omega (arith, c .before .smaller .ensures, c .before .before .before .before .records .ensures))
+    (λ c. omega (arith, c .before .smaller .ensures, c .before .before .before .before .records .ensures))
+    (λ c. omega (arith, c .before .smaller .ensures, c .before .before .before .before .records .ensures))
+    (λ c κs. simp (length-take, length-drop) (omega (arith, c .before .before .before .before .before .records .ensures)))
+    (λ c. omega arith)
+    (λ c. omega arith)
     loop-again
-    mul-result
-    same-length
+    (λ c. omega (arith, c .before .before .records .ensures))
+    (λ c. search needs)
     returns)
