@@ -1,8 +1,8 @@
 /* The desk for C and C++: link libdesk.a, which `rt staticlib desk` writes to target/staticlib for x86-64 Linux.
  *
- * A polynomial is DESK_TERMS coefficients, that of x^0 first. Every function takes any numbers: what 01 refuses is refused by
- * its number, and every result is written, zeros after a refusal (a change is then (1, 0), and an area that is too short stays
- * as it is).
+ * A polynomial is DESK_TERMS coefficients, that of x^0 first. Every function takes any numbers: what 01 or 02 refuses is refused
+ * by its number, and every result is written, zeros after a refusal (a change is then (1, 0), a sheet stays as it is, and after
+ * No. 11 so does an area). What is past the DESK_WORDS of an area, or the DESK_SHEET of a sheet, is neither read nor written.
  *
  * Memory: no pointer may be null, and each is aligned for its type, also where a count is 0 and nothing is read or written.
  * What a function writes (what is not const) may overlap nothing else that it is given: no other result, and nothing that
@@ -10,8 +10,8 @@
  * returns. The library keeps no pointer and has no state, so threads may call it at once; it calls memcpy, memmove and memset.
  *
  * Stack that a call takes, about (stack.c measures it): desk_chain 66 KB, desk_split 57 KB, desk_left_part 37 KB,
- * desk_change_pair 6 KB, desk_change_polynomial 4 KB, desk_compose 3 KB, every other 1 KB. A thread wants some 10 KB more
- * for itself. */
+ * desk_change_pair 6 KB, desk_change_polynomial 4 KB, desk_compose and desk_read_sheet 3 KB, desk_check 2 KB, every other
+ * 1 KB. A thread wants some 10 KB more for itself. */
 #ifndef DESK_H
 #define DESK_H
 
@@ -26,17 +26,20 @@ extern "C" {
 #define DESK_PARTS 6                         /* parts of a chain at most */
 #define DESK_WORDS (DESK_PARTS * DESK_TERMS) /* words of a chain area that are used */
 #define DESK_BYTES (4 * (1 + DESK_TERMS))    /* bytes of a record: the modulus, then the coefficients */
+#define DESK_SHEET (DESK_PARTS * DESK_BYTES) /* bytes of a chain sheet that are used: a record for each place of an area */
 
 typedef uint32_t desk_polynomial[DESK_TERMS];
 
 /* number: 0 if the request was answered, else
- *    1  m is no modulus                             7  no pair; no left part
- *    2  a coefficient is m or more                  8  a or b is m or more, or a has no inverse
- *    3  the degree is below 2, or all is zero       9  fewer bytes than a record has
- *    4  the leading coefficient is not 1           10  the composed degree is too high
- *    5  r, or a chain's n, shares a factor with m  11  the area has fewer than DESK_WORDS words
- *    6  r, or the degree of h, does not fit
- * polynomial: which one 2, 3 and 4 concern, 1 the first, 2 the second; 0 for all others
+ *    1  m is no modulus                             6  r, or the degree of h, does not fit
+ *    2  a coefficient is m or more                  7  no pair; no left part
+ *    3  the degree is below 2, or all is zero       8  a or b is m or more, or a has no inverse
+ *    4  the leading coefficient is not 1            9  fewer bytes than a record has
+ *    5  r, or a chain's n, shares a factor with m  10  the composed degree is too high
+ *   11  the area has fewer than DESK_WORDS words, or the sheet has fewer than DESK_SHEET bytes
+ *   12  the used places are not the first ones, or none is used, or the moduli of a sheet differ
+ * polynomial: which one 2, 3 and 4 concern, 1 the first, 2 the second, 16 + i that in place i, from 0, of a sheet or of the
+ *    area that is written as one; 0 for all others
  * power: the lowest whose coefficient offends for 2; 0 for all others */
 typedef struct {
     uint32_t number;
@@ -64,6 +67,12 @@ desk_refused desk_undo(uint32_t m, uint32_t a, uint32_t b, uint32_t out[2]);
 desk_refused desk_chain(uint32_t m, const desk_polynomial f, uint32_t *area, size_t count, size_t numbers[3]);
 /* place: where part i, from 0, starts in the area and how long it is; 0 and 0 if it is empty */
 void desk_part(const uint32_t *area, size_t count, size_t i, size_t place[2]);
+/* the sheet of the modulus m and the area's parts, a chain's or any others: a record for each, left to right, and zero bytes in
+ * the places that are not used, which are those that are all zero */
+desk_refused desk_write_sheet(uint32_t m, const uint32_t *area, size_t words, uint8_t *sheet, size_t bytes);
+/* the sheet's parts in the area, and zeros in the places that are not used; its modulus; the f that the parts compose to */
+desk_refused desk_read_sheet(const uint8_t *sheet, size_t bytes, uint32_t *area, size_t words, uint32_t *modulus,
+                             desk_polynomial f);
 
 #ifdef __cplusplus
 }

@@ -1,8 +1,8 @@
 """The desk for Python, over target/examples/libdesk.so, which examples/run makes (or the library that DESK_LIBRARY names).
 
 A polynomial is a list of at most TERMS whole numbers, constant term first; an answer has no zeros above its degree. A change
-is (a, b). Where 01 refuses, Refused is raised. What is no request at all raises ValueError (a number that does not fit its
-word, a list that is too long) or TypeError (what is no whole number).
+is (a, b). Where 01 or 02 refuses, Refused is raised. What is no request at all raises ValueError (a number that does not fit
+its word, a list that is too long) or TypeError (what is no whole number).
 """
 
 import collections
@@ -15,6 +15,7 @@ TERMS = 127  # coefficients of a polynomial
 PARTS = 6  # parts of a chain at most
 WORDS = PARTS * TERMS  # words of a chain area that are used
 BYTES = 4 * (1 + TERMS)  # bytes of a record: the modulus, then the coefficients
+SHEET = PARTS * BYTES  # bytes of a chain sheet that are used: a record for each place of an area
 
 REASONS = {
     1: "m is no modulus",
@@ -27,13 +28,15 @@ REASONS = {
     8: "a or b is m or more, or a has no inverse",
     9: "fewer bytes than a record has",
     10: "the composed degree is too high",
-    11: f"the area has fewer than {WORDS} words",
+    11: f"the area has fewer than {WORDS} words, or the sheet has fewer than {SHEET} bytes",
+    12: "the used places are not the first ones, or none is used, or the moduli of a sheet differ",
 }
 
 
 class Refused(Exception):
-    """A refusal of 01: its number, the polynomial it concerns ("first", "second" or None), and the power of x.
+    """A refusal of 01 or 02: its number, the polynomial it concerns, and the power of x.
 
+    The polynomial is "first", "second", "place 0" to "place 5" (of a sheet, or of the area that is written as one) or None.
     The power is the lowest whose coefficient offends for No. 2, and 0 for all others.
     """
 
@@ -44,13 +47,18 @@ class Refused(Exception):
         self.power = power
 
     def __str__(self):
-        place = f" ({self.polynomial} polynomial)" if self.polynomial else ""
+        concerned = ""
+        if self.polynomial in ("first", "second"):
+            concerned = f" ({self.polynomial} polynomial)"
+        elif self.polynomial:
+            concerned = f" (in {self.polynomial})"
         power = f", at x^{self.power}" if self.number == 2 else ""
-        return f"No. {self.number}: {REASONS.get(self.number, 'refused')}{power}{place}"
+        return f"No. {self.number}: {REASONS.get(self.number, 'refused')}{power}{concerned}"
 
 
 Checked = collections.namedtuple("Checked", "modulus polynomial degree")
 Chain = collections.namedtuple("Chain", "parts tries price")
+Sheet = collections.namedtuple("Sheet", "modulus parts polynomial")
 
 
 # The library.
@@ -59,10 +67,12 @@ Chain = collections.namedtuple("Chain", "parts tries price")
 _Word = ctypes.c_uint32
 _Size = ctypes.c_size_t
 _Words = ctypes.POINTER(_Word)
+_Bytes = ctypes.POINTER(ctypes.c_uint8)
 _Polynomial = _Word * TERMS
 _Change = _Word * 2
 _Numbers = _Size * 3
 _Place = _Size * 2
+_Sheet = ctypes.c_uint8 * SHEET
 
 
 class _Refused(ctypes.Structure):
@@ -80,6 +90,8 @@ _FUNCTIONS = {
     "undo": (_Word, _Word, _Word, _Change),
     "chain": (_Word, _Polynomial, _Words, _Size, _Numbers),
     "part": (_Words, _Size, _Size, _Place),
+    "write_sheet": (_Word, _Words, _Size, _Bytes, _Size),
+    "read_sheet": (ctypes.c_char_p, _Size, _Words, _Size, _Words, _Polynomial),
 }
 
 
@@ -98,11 +110,13 @@ def _library():
 
 _desk = _library()
 
+_CONCERNED = {0: None, 1: "first", 2: "second"}
+_CONCERNED.update((16 + i, f"place {i}") for i in range(PARTS))
+
 
 def _answered(refused):
     if refused.number != 0:
-        polynomial = (None, "first", "second")[refused.polynomial]
-        raise Refused(refused.number, polynomial, refused.power)
+        raise Refused(refused.number, _CONCERNED[refused.polynomial], refused.power)
 
 
 # What is given, and what comes back. ctypes alone would take any number modulo 2^32.
@@ -223,3 +237,27 @@ def part(area, i):
     _desk.desk_part(words, len(words), _number(i, _Size), place)
     start, length = place
     return _trimmed(words[start : start + length])
+
+
+def write_sheet(m, area):
+    """The sheet of the modulus m and the parts of an area, a chain's or any others."""
+    words = _area(area)
+    sheet = _Sheet()
+    _answered(_desk.desk_write_sheet(_number(m), words, len(words), sheet, SHEET))
+    return bytes(sheet)
+
+
+def read_sheet(sheet, area=None):
+    """The modulus of the sheet that these bytes begin with, its parts, left to right, and what they compose to.
+
+    A list of words given as the area is written as 02 says, after a refusal too.
+    """
+    data = memoryview(sheet).tobytes()
+    words = _area([0] * WORDS if area is None else area)
+    modulus, f = _Word(), _Polynomial()
+    refused = _desk.desk_read_sheet(data, len(data), words, len(words), modulus, f)
+    if area is not None:
+        area[:] = words
+    _answered(refused)
+    parts = [part(words, i) for i in range(PARTS)]
+    return Sheet(modulus.value, [p for p in parts if p], _trimmed(f))

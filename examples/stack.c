@@ -3,8 +3,8 @@
  *
  *     cc -O2 -Wl,-z,now -o target/examples/stack examples/stack.c target/staticlib/libdesk.a && target/examples/stack
  *
- * The requests are x^n and x^n + x at all degrees of g and h, and the most that any of them takes is printed. By -z,now memcpy
- * is found before the first call, which would count as the function's own. */
+ * The requests are x^n and x^n + x at all degrees of g and h, and the sheet of g and h; the most that any of them takes is
+ * printed. By -z,now memcpy is found before the first call, which would count as the function's own. */
 #include <stdio.h>
 #include <string.h>
 #include <ucontext.h>
@@ -21,6 +21,7 @@ static const uint32_t m = 101;
 static const uint8_t square[DESK_BYTES] = {101, [4 * 3] = 1};
 static desk_polynomial f, g, h, left, right;
 static uint32_t area[DESK_WORDS], change[2];
+static uint8_t sheet[DESK_SHEET];
 static size_t r, numbers[3];
 
 static void check(void) { desk_check(square, sizeof square, change, left, numbers); }
@@ -33,6 +34,8 @@ static void combine(void) { desk_combine(m, 2, 3, 5, 7, change); }
 static void undo(void) { desk_undo(m, 2, 3, change); }
 static void chain(void) { desk_chain(m, f, area, DESK_WORDS, numbers); }
 static void part(void) { desk_part(area, DESK_WORDS, 0, numbers); }
+static void write_sheet(void) { desk_write_sheet(m, area, DESK_WORDS, sheet, DESK_SHEET); }
+static void read_sheet(void) { desk_read_sheet(sheet, DESK_SHEET, area, DESK_WORDS, change, left); }
 
 static const struct {
     const char *name;
@@ -40,7 +43,8 @@ static const struct {
 } functions[] = {
     {"desk_check", check}, {"desk_compose", compose}, {"desk_left_part", left_part}, {"desk_split", split},
     {"desk_change_polynomial", change_polynomial}, {"desk_change_pair", change_pair}, {"desk_combine", combine},
-    {"desk_undo", undo}, {"desk_chain", chain}, {"desk_part", part},
+    {"desk_undo", undo}, {"desk_chain", chain}, {"desk_part", part}, {"desk_write_sheet", write_sheet},
+    {"desk_read_sheet", read_sheet},
 };
 
 static size_t taken(void (*run)(void)) {
@@ -64,6 +68,10 @@ static size_t most_taken(void (*run)(void)) {
             memset(g, 0, sizeof g);
             memset(h, 0, sizeof h);
             f[r * s] = g[r] = h[s] = 1;
+            memset(area, 0, sizeof area);
+            memcpy(area, g, sizeof g);
+            memcpy(area + DESK_TERMS, h, sizeof h);
+            write_sheet();
             for (f[1] = 0; f[1] < 2; f[1]++) {
                 size_t now = taken(run);
                 if (most < now) most = now;

@@ -1,6 +1,7 @@
-/* 01's worked polynomials, asked of all ten functions. It is C and C++; worked.py asks the same and prints the same. */
+/* 01's worked polynomials, asked of all twelve functions. It is C and C++; worked.py asks the same and prints the same. */
 #include <inttypes.h>
 #include <stdio.h>
+#include <string.h>
 
 #include "desk.h"
 
@@ -16,7 +17,13 @@ static int answered(const char *name, desk_refused refused) {
     static const char *const concerned[] = {"neither", "first", "second"};
     printf("%s:", name);
     if (refused.number == 0) return 1;
-    printf(" No. %" PRIu32 ", %s, power %" PRIu32 "\n", refused.number, concerned[refused.polynomial], refused.power);
+    printf(" No. %" PRIu32 ", ", refused.number);
+    if (refused.polynomial < 16) {
+        printf("%s", concerned[refused.polynomial]);
+    } else {
+        printf("place %" PRIu32, refused.polynomial - 16);
+    }
+    printf(", power %" PRIu32 "\n", refused.power);
     return 0;
 }
 
@@ -70,6 +77,35 @@ static void check(const char *name, uint32_t m, const desk_polynomial f, size_t 
     printf(" m %" PRIu32 ", degree %zu,", modulus, degree);
     print(found, DESK_TERMS);
     printf("\n");
+}
+
+static void write_sheet(const char *name, uint32_t m, const uint32_t *area, size_t words, uint8_t *sheet) {
+    if (!answered(name, desk_write_sheet(m, area, words, sheet, DESK_SHEET))) return;
+    for (size_t i = 0; i < DESK_PARTS; i++) {
+        uint32_t record[DESK_BYTES / 4] = {0};
+        for (size_t j = 0; j < DESK_BYTES; j++) record[j / 4] |= (uint32_t)sheet[DESK_BYTES * i + j] << 8 * (j % 4);
+        print(record, DESK_BYTES / 4);
+    }
+    printf("\n");
+}
+
+static void read_sheet(const char *name, const uint8_t *sheet, size_t bytes, uint32_t *area) {
+    desk_polynomial f;
+    uint32_t modulus;
+    if (!answered(name, desk_read_sheet(sheet, bytes, area, DESK_WORDS, &modulus, f))) return;
+    printf(" m %" PRIu32 ",", modulus);
+    for (size_t i = 0; i < DESK_PARTS; i++) {
+        size_t place[2];
+        desk_part(area, DESK_WORDS, i, place);
+        if (place[1] != 0) print(area + place[0], place[1]);
+    }
+    printf(", composed");
+    print(f, DESK_TERMS);
+    printf("\n");
+}
+
+static void same(const char *name, const void *one, const void *other, size_t size) {
+    printf("%s: %s\n", name, memcmp(one, other, size) == 0 ? "the same" : "another");
 }
 
 static const desk_polynomial A = {10, 3, 6, 7, 6, 3, 1};
@@ -144,6 +180,45 @@ static void limits(void) {
     two("L, r = n", desk_split(101, A, 6, g, h), g, h);
 }
 
+static void sheets(void) {
+    uint32_t area[DESK_WORDS], back[DESK_WORDS];
+    uint8_t sheet[DESK_SHEET], again[DESK_SHEET];
+    size_t numbers[3];
+    desk_chain(101, B, area, DESK_WORDS, numbers);
+    write_sheet("B, sheet", 101, area, DESK_WORDS, sheet);
+    read_sheet("B, sheet read", sheet, DESK_SHEET, back);
+    same("B, written and read", area, back, sizeof area);
+    desk_write_sheet(101, back, DESK_WORDS, again, DESK_SHEET);
+    same("B, read and written", sheet, again, sizeof sheet);
+    read_sheet("B, sheet, a byte short", sheet, DESK_SHEET - 1, back);
+    same("B, area after that", area, back, sizeof area);
+
+    uint8_t *second = sheet + DESK_BYTES, *third = second + DESK_BYTES;
+    second[4 * (1 + 3)] = 2;
+    read_sheet("B, sheet, 2x^3", sheet, DESK_SHEET, back);
+    part("B, part 0 after that", back, DESK_WORDS, 0);
+    second[4 * (1 + 3)] = 1;
+    second[0] = 103;
+    read_sheet("B, sheet, m 101 and 103", sheet, DESK_SHEET, back);
+    second[0] = 101;
+    memcpy(third, second, DESK_BYTES);
+    memset(second, 0, DESK_BYTES);
+    read_sheet("B, sheet with a gap", sheet, DESK_SHEET, back);
+    memset(sheet, 0, DESK_SHEET);
+    read_sheet("sheet of zeros", sheet, DESK_SHEET, back);
+
+    desk_chain(101, E, area, DESK_WORDS, numbers);
+    write_sheet("E, sheet", 101, area, DESK_WORDS, sheet);
+    read_sheet("E, sheet read", sheet, DESK_SHEET, back);
+    write_sheet("E, sheet, m 3", 3, area, DESK_WORDS, sheet);
+    write_sheet("E, sheet, m 1", 1, area, DESK_WORDS, sheet);
+    write_sheet("E, sheet, a word short", 101, area, DESK_WORDS - 1, sheet);
+    memset(area, 0, DESK_TERMS * sizeof *area);
+    write_sheet("E, sheet with a gap", 101, area, DESK_WORDS, sheet);
+    area[22] = 1;
+    write_sheet("E, sheet, 22, 2 and 3", 101, area, DESK_WORDS, sheet);
+}
+
 int main(void) {
     desk_polynomial f;
     pairs();
@@ -154,5 +229,6 @@ int main(void) {
     check("B, record, a byte short", 101, B, DESK_BYTES - 1);
     check("E, record, m 9", 9, E, DESK_BYTES);
     one("E as h, m 9", desk_compose(9, square, E, f), f);
+    sheets();
     return 0;
 }

@@ -39,6 +39,18 @@ def checked(found):
     return f"m {found.modulus}, degree {found.degree}, {found.polynomial}"
 
 
+def written(sheet):
+    records = [list(words) for words in struct.iter_unpack(f"<{1 + desk.TERMS}I", sheet)]
+    for words in records:
+        while words and words[-1] == 0:
+            words.pop()
+    return two(records)
+
+
+def read(found):
+    return f"m {found.modulus}, {two(found.parts)}, composed {found.polynomial}"
+
+
 def record(m, f):
     zeros = [0] * (desk.TERMS - len(f))
     return struct.pack(f"<{1 + desk.TERMS}I", m, *f, *zeros)
@@ -102,6 +114,40 @@ def records():
     say("E as h, m 9", str, desk.compose, 9, SQUARE, E)
 
 
+def same(name, one, other):
+    print(f"{name}: {'the same' if one == other else 'another'}")
+
+
+def sheets():
+    area, back = [0] * desk.WORDS, [0] * desk.WORDS
+    desk.chain(101, B, area)
+    sheet = say("B, sheet", written, desk.write_sheet, 101, area)
+    say("B, sheet read", read, desk.read_sheet, sheet, back)
+    same("B, written and read", area, back)
+    same("B, read and written", sheet, desk.write_sheet(101, back))
+    say("B, sheet, a byte short", read, desk.read_sheet, sheet[:-1], back)
+    same("B, area after that", area, back)
+
+    first, second = record(101, [96, 1, 1]), record(101, [0, 3, 0, 1])
+    unused = bytes(desk.BYTES)
+    say("B, sheet, 2x^3", read, desk.read_sheet, first + record(101, [0, 3, 0, 2]) + 4 * unused, back)
+    say("B, part 0 after that", str, desk.part, back, 0)
+    say("B, sheet, m 101 and 103", read, desk.read_sheet, first + record(103, [0, 3, 0, 1]) + 4 * unused)
+    say("B, sheet with a gap", read, desk.read_sheet, first + unused + second + 3 * unused)
+    say("sheet of zeros", read, desk.read_sheet, 6 * unused)
+
+    desk.chain(101, E, area)
+    sheet = say("E, sheet", written, desk.write_sheet, 101, area)
+    say("E, sheet read", read, desk.read_sheet, sheet)
+    say("E, sheet, m 3", written, desk.write_sheet, 3, area)
+    say("E, sheet, m 1", written, desk.write_sheet, 1, area)
+    say("E, sheet, a word short", written, desk.write_sheet, 101, area[:-1])
+    area[: desk.TERMS] = [0] * desk.TERMS
+    say("E, sheet with a gap", written, desk.write_sheet, 101, area)
+    area[22] = 1
+    say("E, sheet, 22, 2 and 3", written, desk.write_sheet, 101, area)
+
+
 def no_request(error, ask, *request):
     """What is no request at all raises a plain error of Python, and the desk is not asked."""
     try:
@@ -124,6 +170,10 @@ def no_requests():
     no_request(TypeError, desk.split, 101, [0.5, 0, 1], 2)
     no_request(TypeError, desk.split, 101, 7, 2)
     no_request(TypeError, desk.check, desk.BYTES)
+    no_request(ValueError, desk.write_sheet, 1 << 32, [])
+    no_request(ValueError, desk.write_sheet, 101, [-1])
+    no_request(ValueError, desk.read_sheet, b"", [1 << 32])
+    no_request(TypeError, desk.read_sheet, desk.SHEET)
 
 
 if __name__ == "__main__":
@@ -132,4 +182,5 @@ if __name__ == "__main__":
     chains()
     limits()
     records()
+    sheets()
     no_requests()
