@@ -1,6 +1,7 @@
 -- The answers of the writer and the reader, by the tests that the code makes.
 --
 --   room, roomy                   past No. 11 there is room, and where there is room it passes
+--   records-first, twelve-first   the reader's order
 --   sheet-passes, area-passes     what a sheet, and an area, that passes its checks has passed
 --   product-within                past No. 10 the product is within the limit
 --   write-short, write-refused, write-made              each return of the writer
@@ -19,7 +20,7 @@ use Rattle.algebra.specs.Chain.{composed, degrees, product}
 use Rattle.refusal.specs.Refusal.{_then_, is-refused}
 use Rattle.refusal.specs.declared.Outcome.{Outcome}
 use Rattle.refusal.specs.declared.Outcome.the-variants.{Answered}
-use Rattle.refusal.proofs.Outcomes.{answered, then-both, stopped, refused-by, passed-on, refuse-answered}
+use Rattle.refusal.proofs.Outcomes.{answered, then-refused, then-both, then-assoc, stopped, refused-by, passed-on, refuse-answered}
 use Rattle.polynomial.specs.Moduli.{modulus, check-modulus}
 use Rattle.area.specs.Area.{most-parts, area-words, place, cleared}
 use Rattle.record.specs.Record.{word}
@@ -45,6 +46,19 @@ room n k h = let (a, b) = neither (ltb n sheet-bytes) (ltb k area-words) (refuse
 pub roomy : {n k : ℕ} → sheet-bytes ≤ n → area-words ≤ k → check-room n k ≡ Answered
 unfolding check-room
 roomy {n} {k} h l = simp (le-ltb n sheet-bytes h, le-ltb k area-words l)
+
+-- the reader's order: a record's own 1 to 4 come before 12
+pub records-first : (b : List ℕ) → is-refused (check-records b) ≡ true → check-sheet b ≡ check-records b
+unfolding check-sheet
+records-first b h = then-refused _ h
+
+-- and 12 comes before 10
+pub twelve-first : (b : List ℕ) → check-records b ≡ Answered → is-refused (check-order (λ i. used (record-at b i)) then check-moduli b) ≡ true
+    → check-sheet b ≡ (check-order (λ i. used (record-at b i)) then check-moduli b)
+unfolding check-sheet
+twelve-first b e h =
+    ap (λ (o : Outcome). o then check-order (λ i. used (record-at b i)) then check-moduli b then check-product (held b)) e
+    ∙ sym (then-assoc (check-order (λ i. used (record-at b i))) (check-moduli b) (check-product (held b))) ∙ then-refused (check-product (held b)) h
 
 pub sheet-passes : (b : List ℕ) → check-sheet b ≡ Answered
     → (check-records b ≡ Answered) × (check-order (λ i. used (record-at b i)) ≡ Answered) × (check-moduli b ≡ Answered) × (check-product (held b) ≡ Answered)

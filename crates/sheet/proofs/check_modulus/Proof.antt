@@ -1,6 +1,7 @@
 use mathlib.Core.Path.{_≡_, ap, sym, _∙_}
 use mathlib.Core.List.{List}
 use Prim.Native.Nat.{ℕ}
+use native.Mathlib.Omega.{arith}
 use borrow.Author.Tests.{eq-eqb, ne-eqb, not-true, not-false}
 use Rattle.record.specs.Record.{word}
 use Rattle.algebra.specs.Polynomial.{limit, terms}
@@ -22,7 +23,7 @@ returns-2 c =
     let a = c .before .before .before .before .before .before .before .args in
     let e = c .before .word .ensures ∙ ap (λ (r : List ℕ). word r 0) (cut record-bytes (a .i) (a .sheet .now)) in
     let u = sym (c .before .before .before .before .used .ensures) ∙ not-false _ (c .before .before .before .if1 .left) in
-    simp (u, eq-eqb (word (record-at (a .sheet .now) (a .i)) 0) (a .m) (sym e ∙ c .if2 .taken))
+    simp (u, eq-eqb (word (record-at (a .sheet .now) (a .i)) 0) (a .m) (omega (arith, e)))
 
 returns-3 : tie.Need-returns-3
 unfolding sheet-bytes record-bytes area-words most-parts terms limit
@@ -30,7 +31,7 @@ returns-3 c =
     let a = c .before .before .before .before .before .before .before .before .args in
     let e = c .before .before .word .ensures ∙ ap (λ (r : List ℕ). word r 0) (cut record-bytes (a .i) (a .sheet .now)) in
     let u = sym (c .before .before .before .before .before .used .ensures) ∙ not-false _ (c .before .before .before .before .if1 .left) in
-    simp (u, ne-eqb (word (record-at (a .sheet .now) (a .i)) 0) (a .m) (λ z. c .before .if2 .left (e ∙ z))) (c .refused .ensures)
+    simp (u, ne-eqb (word (record-at (a .sheet .now) (a .i)) 0) (a .m) (λ z. omega (arith, e))) (c .refused .ensures)
 
 pub check-modulus-spec : {M : Type 1} → statement M
 unfolding sheet-bytes record-bytes area-words most-parts terms limit

@@ -32,7 +32,7 @@ loop-again c =
     let a = c .before .before .before .before .before .before .before .before .before .before .before .args in
     let e : l .i * sheet-bytes + sheet-bytes - l .i * sheet-bytes ≡ sheet-bytes = omega arith in
     let new = subst (λ (r : List ℕ). SheetOf r (c .before .before .sheet-of .last .1 .0)) (ap (λ (n : ℕ). take (n - l .i * record-bytes) (drop (l .i * record-bytes) (a .s .now))) (c .before .before .before .before .before .smaller .ensures) ∙ cut-short (l .i * record-bytes) record-bytes (a .s .now)) (c .before .before .sheet-of .ensures) in
-    (omega arith, search needs, begun-more (a .s .now) (a .out .now) (l .i) (omega (arith, c .before .before .before .before .before .before .before .before .records .ensures)) (search needs) (l .inv .2) new (rw e refl))
+    (omega arith, search needs, begun-more (a .s .now) (a .out .now) (l .i) (omega (arith, c .before .before .before .before .before .before .before .before .records .ensures)) (search needs) (l .inv .2) new (ap (λ (n : ℕ). take (l .i * sheet-bytes) (l .out) ++ (c .before .before .sheet-of .last .1 .0 ++ drop n (drop (l .i * sheet-bytes) (l .out)))) e))
 
 returns : tie.Need-returns Inv-loop μ-loop
 unfolding records buffer-bytes most-records sheet-bytes record-bytes most-parts terms limit
