@@ -1,5 +1,5 @@
 //! Records per second of the proved program `list` and of a plain Rust listing by the same method, both as programs that
-//! read a file and write to a pipe.
+//! read a file and write to a pipe; then of `list` and `sheets`, which read and write a file.
 
 use crate::plain::{accepted, binomials, degree, invert, split_at, Polynomial, TERMS};
 use crate::timing::Random;
@@ -211,6 +211,40 @@ fn seconds(program: &mut Command, file: &Path) -> (f64, Vec<u8>) {
     best
 }
 
+/// The least seconds of each program from the file to another one, run by turns.
+fn by_turns(programs: [&str; 2], file: &Path) -> [f64; 2] {
+    let mut best = [f64::MAX; 2];
+    for _ in 0..RUNS {
+        for (program, best) in programs.iter().zip(&mut best) {
+            let output = File::create(file.with_extension("written")).unwrap();
+            let start = Instant::now();
+            let status = Command::new(program)
+                .stdin(File::open(file).unwrap())
+                .stdout(output)
+                .status()
+                .unwrap();
+            assert!(status.success(), "{program}: {status}");
+            *best = best.min(start.elapsed().as_secs_f64());
+        }
+    }
+    best
+}
+
+/// A record's sheet beside its line: both programs read the same file.
+fn sheets(files: &[(&str, Vec<u8>, usize)], file: &Path) {
+    println!();
+    println!(
+        "{:<52}{:>12}{:>12}{:>8}",
+        "records per second", "sheets", "list", "ratio"
+    );
+    for (label, bytes, count) in files {
+        fs::write(file, bytes).unwrap();
+        let [sheets, list] = by_turns(["target/bin/sheets", "target/bin/list"], file);
+        let (a, b) = (*count as f64 / sheets, *count as f64 / list);
+        println!("{label:<52}{a:>12.0}{b:>12.0}{:>8.2}", a / b);
+    }
+}
+
 pub fn run() {
     println!();
     println!(
@@ -220,8 +254,8 @@ pub fn run() {
     assert!(accepted(7, &monic(&mut Random(9), 7, 4, true)));
     let folder = Path::new("target/bench-records");
     fs::create_dir_all(folder).unwrap();
-    for (label, bytes, count) in files(&mut Random(4)) {
-        let file = folder.join("records");
+    let (file, files) = (folder.join("records"), files(&mut Random(4)));
+    for (label, bytes, count) in &files {
         fs::write(&file, bytes).unwrap();
         let (ours, ours_text) = seconds(&mut Command::new("target/bin/list"), &file);
         let (plain, plain_text) = seconds(
@@ -229,7 +263,8 @@ pub fn run() {
             &file,
         );
         assert!(ours_text == plain_text, "{label}: the listings differ");
-        let (a, b) = (count as f64 / ours, count as f64 / plain);
+        let (a, b) = (*count as f64 / ours, *count as f64 / plain);
         println!("{label:<52}{a:>12.0}{b:>12.0}{:>8.2}", a / b);
     }
+    sheets(&files, &file);
 }
