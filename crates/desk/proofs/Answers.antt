@@ -31,7 +31,6 @@ use Rattle.change.proofs.Determined.{change-polynomial-determined, change-pair-
 use Rattle.area.specs.Area.{start, part-of}
 use Rattle.chain.specs.declared.Chained.{Chained}
 use Rattle.chain.proofs.Promises.{chain-determined}
-use Rattle.refusal.specs.declared.Outcome.{Outcome}
 use Rattle.sheet.specs.declared.Contents.{Contents}
 use Rattle.sheet.proofs.Promises.{write-determined, read-determined}
 use Rattle.desk.specs.Face.{told, CheckedAs, AnswersAs, PartsAs, MadeAs, ChainedAs, WrittenAs, ReadAs, start-of, place-of}

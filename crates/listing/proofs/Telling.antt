@@ -12,8 +12,6 @@ use lib.ListN.{length, drop}
 use Rattle.algebra.specs.Number.{table}
 use Rattle.algebra.specs.Polynomial.{degree, terms, limit}
 use Rattle.refusal.specs.Refusal.{is-refused}
-use Rattle.refusal.specs.declared.Outcome.{Outcome}
-use Rattle.refusal.specs.declared.Outcome.the-variants.{Answered, Refused}
 use Rattle.refusal.proofs.Outcomes.{answered, a-refusal, refused-by}
 use Rattle.polynomial.specs.Moduli.{modulus}
 use Rattle.polynomial.proofs.Acceptance.{accepted-above, degree-fits}

@@ -10,7 +10,7 @@
 use mathlib.Core.Path.{_≡_, refl, sym, ap, ap₂, subst, _∙_}
 use mathlib.Core.Bool.{Bool, true, false}
 use mathlib.Core.Logic.{⊎-elim}
-use mathlib.Core.List.{List, [], _∷_}
+use mathlib.Core.List.{List, _∷_}
 use Prim.Native.Nat.{ℕ, zero, suc, _-_, _≤_, _<_}
 use native.Mathlib.Nat as N
 use native.Mathlib.Omega.{arith}
@@ -25,15 +25,13 @@ use Rattle.algebra.proofs.Polynomials.{same-sym, _⨾_}
 use Rattle.refusal.specs.declared.Concerns.the-variants.{Place}
 use Rattle.refusal.specs.declared.Outcome.the-variants.{Answered}
 use Rattle.polynomial.specs.Moduli.{modulus, check-modulus}
-use Rattle.polynomial.specs.Checks.{Accepted}
-use Rattle.polynomial.proofs.Acceptance.{accepted-modulus, accepted-above, polynomial-accepted, degree-fits}
+use Rattle.polynomial.proofs.Acceptance.{accepted-modulus, polynomial-accepted, degree-fits}
 use Rattle.area.specs.Area.{most-parts, area-words, place, written, part-of}
-use Rattle.area.proofs.Reading.{handed-out, Fills, EachFills, part-fills, written-long, read-back, read-past}
+use Rattle.area.proofs.Reading.{handed-out, EachFills, part-fills, written-long, read-back, read-past}
 use Rattle.chain.specs.declared.Chained.{Chained}
 use Rattle.chain.proofs.Promises.{Complete}
 use Rattle.sheet.specs.Sheet.{used, parts-in}
 use Rattle.sheet.specs.Checks.{check-part, check-parts, check-product, check-area}
-use Rattle.sheet.specs.Steps.{Parted}
 use Rattle.sheet.proofs.Checking.{each-all}
 use Rattle.sheet.proofs.Composing.{parts-skip, parts-take, composed-same}
 use Rattle.sheet.proofs.Handing.{empty-unused, handed-used, handed-place}

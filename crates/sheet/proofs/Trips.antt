@@ -8,18 +8,18 @@
 --   FirstOnes u k             the used places are the first k, and k is not 0
 --   order-exact, exact-order  what passes No. 12 of the used places is that
 use mathlib.Core.Path.{_≡_, refl, sym, ap, ap₂, subst, _∙_}
-use mathlib.Core.Bool.{Bool, true, false, not, _&&_, _||_, true≢false, false≢true}
+use mathlib.Core.Bool.{Bool, true, false, not, _&&_, _||_, true≢false}
 use mathlib.Core.Logic.{⊎-elim}
 use mathlib.Core.List.{List, _++_}
-use Prim.Native.Nat.{ℕ, zero, suc, _+_, _*_, _^_, _≤_, _<_}
+use Prim.Native.Nat.{ℕ, zero, suc, _*_, _^_, _≤_, _<_}
 use native.Mathlib.Nat as N
 use native.Mathlib.Omega.{arith}
 use native.Mathlib.Decide.{decLt}
 use borrow.Author.Tests.{lt-ltb, le-ltb, ltb-true, eq-eqb, not-false}
 use lib.Dec.{ltb, eqb}
-use lib.ListN.{length, take, drop, replicate}
+use lib.ListN.{length, take, replicate}
 use lib.Seq.{getD-take}
-use Rattle.algebra.specs.Polynomial.{coef, terms}
+use Rattle.algebra.specs.Polynomial.{terms}
 use Rattle.refusal.specs.Refusal.{refuse}
 use Rattle.refusal.specs.declared.Concerns.the-variants.{Neither, Place}
 use Rattle.refusal.specs.declared.Reason.the-variants.{Sheet}

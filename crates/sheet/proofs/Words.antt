@@ -13,7 +13,7 @@
 --   used-words                a record is used exactly if some word of it is not zero
 --   recorded-none, recorded-some     what is put into the place of a part that is not used, and of one that is
 use mathlib.Core.Path.{_≡_, refl, sym, ap, ap₂, _∙_}
-use mathlib.Core.Bool.{Bool, true, false, not}
+use mathlib.Core.Bool.{Bool, true, false}
 use mathlib.Core.List.{List, [], _∷_, _++_, append-nil, append-assoc}
 use Prim.Native.Nat.{ℕ, zero, suc, _+_, _*_, _/_, _%_, _^_, _≤_, _<_}
 use native.Mathlib.Nat as N
@@ -23,7 +23,6 @@ use native.Mathlib.Numerals.{add-one}
 use borrow.Author.Tests.{eq-eqb}
 use lib.ListN.{length, take, drop, replicate, length-replicate, length-drop, length-take, drop-of-length-le, getD, set, List·getD-eq-default}
 use lib.Seq.{ext-getD, getD-take, getD-drop, length-take-le, take-all, drop-drop, sets-eq}
-use Rattle.algebra.specs.Number.{table}
 use Rattle.algebra.specs.Polynomial.{coef, terms}
 use Rattle.algebra.proofs.Numbers.{table-below}
 use Rattle.area.specs.Area.{all-zero}

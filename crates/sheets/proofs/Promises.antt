@@ -6,9 +6,9 @@
 --   refused-sheet        the sheet of a record that is refused is zero bytes
 --   refused-read         which the reader refuses by No. 12
 --   record-read          the sheet of any other record, read, gives its modulus word and its polynomial
-use mathlib.Core.Path.{_≡_, refl, sym, ap, ap₂, subst, _∙_}
+use mathlib.Core.Path.{_≡_, sym, ap, ap₂, subst, _∙_}
 use mathlib.Core.List.{List, _++_}
-use Prim.Native.Nat.{ℕ, suc, _+_, _*_, _-_, _/_, _%_, _^_, _≤_, _<_}
+use Prim.Native.Nat.{ℕ, suc, _+_, _*_, _-_, _%_, _≤_, _<_}
 use native.Mathlib.Nat as N
 use native.Mathlib.Omega.{arith}
 use native.Mathlib.Decide.{decLt}
@@ -18,9 +18,8 @@ use Rattle.algebra.specs.Number.{Coprime}
 use Rattle.algebra.specs.Polynomial.{limit, terms, degree}
 use Rattle.refusal.specs.Refusal.{refusal}
 use Rattle.refusal.specs.declared.Concerns.the-variants.{Neither}
-use Rattle.refusal.specs.declared.Refusal.{Refusal}
 use Rattle.refusal.specs.declared.Reason.the-variants.{Sheet}
-use Rattle.refusal.specs.declared.Outcome.the-variants.{Answered, Refused}
+use Rattle.refusal.specs.declared.Outcome.the-variants.{Answered}
 use Rattle.refusal.proofs.Outcomes.{never}
 use Rattle.polynomial.specs.Moduli.{modulus}
 use Rattle.area.specs.Area.{area-words}

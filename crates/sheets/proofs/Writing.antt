@@ -19,12 +19,12 @@ use Rattle.refusal.proofs.Outcomes.{answered, a-refusal, refused-by}
 use Rattle.polynomial.specs.Moduli.{modulus}
 use Rattle.area.specs.Area.{area-words}
 use Rattle.record.specs.declared.Checked.{Checked}
-use Rattle.record.specs.Record.{word, coefficients, checked}
+use Rattle.record.specs.Record.{checked}
 use Rattle.record.proofs.Answers.{check-outcome, check-answered}
 use Rattle.chain.specs.declared.Chained.{Chained}
 use Rattle.chain.specs.Chaining.{ChainOf}
 use Rattle.sheet.specs.Sheet.{sheet-bytes, record-at, sheet-of}
-use Rattle.sheets.specs.Sheets.{SheetOf, records, sheet-at, SheetsOf, SheetsIn}
+use Rattle.sheets.specs.Sheets.{SheetOf, records, sheet-at, SheetsIn}
 use Rattle.sheets.specs.Sheets as of
 use Rattle.sheets.proofs.Pieces.{front, put-here, put-before, put-past}
 

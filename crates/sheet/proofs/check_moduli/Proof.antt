@@ -8,12 +8,10 @@ use Rattle.refusal.specs.declared.Concerns.the-variants.{Neither}
 use Rattle.refusal.specs.declared.Reason.the-variants.{Sheet}
 use Rattle.refusal.specs.declared.Outcome.the-variants.{Answered}
 use Rattle.refusal.proofs.Outcomes.{answered}
-use Rattle.record.specs.Record.{word}
+use Rattle.record.specs.Record.{word, record-bytes}
 use Rattle.algebra.specs.Polynomial.{limit, terms}
 use Rattle.area.specs.Area.{most-parts, area-words}
-use Rattle.record.specs.Record.{record-bytes}
-use Rattle.sheet.specs.Sheet.{sheet-bytes}
-use Rattle.sheet.specs.Sheet.{record-at, used}
+use Rattle.sheet.specs.Sheet.{sheet-bytes, record-at, used}
 use Rattle.sheet.specs.Checks.{each, check-moduli}
 use Rattle.sheet.proofs.Checking.{each-none, each-more, each-stop, each-done}
 use borrow.Author.Needs.{needs}

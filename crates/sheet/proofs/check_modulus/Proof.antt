@@ -1,14 +1,12 @@
-use mathlib.Core.Path.{_≡_, ap, sym, _∙_}
+use mathlib.Core.Path.{ap, sym, _∙_}
 use mathlib.Core.List.{List}
 use Prim.Native.Nat.{ℕ}
 use native.Mathlib.Omega.{arith}
 use borrow.Author.Tests.{eq-eqb, ne-eqb, not-true, not-false}
-use Rattle.record.specs.Record.{word}
+use Rattle.record.specs.Record.{word, record-bytes}
 use Rattle.algebra.specs.Polynomial.{limit, terms}
 use Rattle.area.specs.Area.{most-parts, area-words}
-use Rattle.record.specs.Record.{record-bytes}
-use Rattle.sheet.specs.Sheet.{sheet-bytes}
-use Rattle.sheet.specs.Sheet.{record-at}
+use Rattle.sheet.specs.Sheet.{sheet-bytes, record-at}
 use Rattle.sheet.proofs.Joining.{cut}
 use borrow.Author.Needs.{needs}
 use Rattle.sheet.proofs.check_modulus.Statement.{statement}

@@ -6,12 +6,10 @@ use Rattle.refusal.specs.Refusal.{refuse, is-refused}
 use Rattle.refusal.specs.declared.Concerns.the-variants.{Neither}
 use Rattle.refusal.specs.declared.Reason.the-variants.{Sheet}
 use Rattle.refusal.specs.declared.Outcome.the-variants.{Answered}
-use Rattle.area.specs.Area.{place}
+use Rattle.area.specs.Area.{place, most-parts, area-words}
 use Rattle.algebra.specs.Polynomial.{limit, terms}
-use Rattle.area.specs.Area.{most-parts, area-words}
 use Rattle.record.specs.Record.{record-bytes}
-use Rattle.sheet.specs.Sheet.{sheet-bytes}
-use Rattle.sheet.specs.Sheet.{used}
+use Rattle.sheet.specs.Sheet.{sheet-bytes, used}
 use Rattle.sheet.specs.Checks.{each, in-order, check-order}
 use Rattle.sheet.proofs.Checking.{each-none, each-more, each-stop, each-done}
 use borrow.Author.Needs.{needs}

@@ -3,9 +3,8 @@ use Prim.Native.Nat.{_-_, _≤_}
 use native.Mathlib.Omega.{arith}
 use Rattle.refusal.specs.declared.Outcome.the-variants.{Answered}
 use Rattle.refusal.proofs.Outcomes.{answered}
-use Rattle.area.specs.Area.{place}
+use Rattle.area.specs.Area.{place, most-parts, area-words}
 use Rattle.algebra.specs.Polynomial.{limit, terms}
-use Rattle.area.specs.Area.{most-parts, area-words}
 use Rattle.record.specs.Record.{record-bytes}
 use Rattle.sheet.specs.Sheet.{sheet-bytes}
 use Rattle.sheet.specs.Checks.{each, check-part, check-parts}

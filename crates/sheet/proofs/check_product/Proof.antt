@@ -3,12 +3,10 @@ use Prim.Native.Nat.{ℕ, _+_, _*_, _-_, _≤_}
 use native.Mathlib.Nat as N
 use native.Mathlib.Omega.{arith}
 use Rattle.algebra.specs.Chain.{degrees, product}
-use Rattle.area.specs.Area.{place}
+use Rattle.area.specs.Area.{place, most-parts, area-words}
 use Rattle.algebra.specs.Polynomial.{limit, terms}
-use Rattle.area.specs.Area.{most-parts, area-words}
 use Rattle.record.specs.Record.{record-bytes}
-use Rattle.sheet.specs.Sheet.{sheet-bytes}
-use Rattle.sheet.specs.Sheet.{parts-in}
+use Rattle.sheet.specs.Sheet.{sheet-bytes, parts-in}
 use Rattle.sheet.proofs.Composing.{product-none, above-product, within-product}
 use borrow.Author.Needs.{needs}
 use Rattle.sheet.proofs.check_product.Statement.{statement}

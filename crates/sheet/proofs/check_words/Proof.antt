@@ -1,6 +1,5 @@
 use Rattle.refusal.proofs.Outcomes.{stopped, went-on}
 use native.Mathlib.Omega.{arith}
-use Rattle.algebra.specs.Polynomial.{limit, terms}
 use Rattle.area.specs.Area.{most-parts}
 use Rattle.sheet.specs.Checks.{check-words}
 use borrow.Author.Needs.{needs}

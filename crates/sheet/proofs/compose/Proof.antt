@@ -1,14 +1,11 @@
 use mathlib.Core.Path.{_≡_, ap, _∙_}
 use Prim.Native.Nat.{ℕ, _-_, _≤_}
 use native.Mathlib.Omega.{arith}
-use Rattle.algebra.specs.Polynomial.{reduced}
+use Rattle.algebra.specs.Polynomial.{reduced, limit, terms}
 use Rattle.algebra.specs.Chain.{composed}
-use Rattle.area.specs.Area.{place}
-use Rattle.algebra.specs.Polynomial.{limit, terms}
-use Rattle.area.specs.Area.{most-parts, area-words}
+use Rattle.area.specs.Area.{place, most-parts, area-words}
 use Rattle.record.specs.Record.{record-bytes}
-use Rattle.sheet.specs.Sheet.{sheet-bytes}
-use Rattle.sheet.specs.Sheet.{parts-in}
+use Rattle.sheet.specs.Sheet.{sheet-bytes, parts-in}
 use Rattle.sheet.specs.Steps.{ComposedTo}
 use Rattle.sheet.proofs.Composing.{composed-none}
 use borrow.Author.Needs.{needs}

@@ -1,5 +1,5 @@
 use native.Mathlib.Omega.{arith}
-use Rattle.algebra.specs.Polynomial.{limit, terms}
+use Rattle.algebra.specs.Polynomial.{limit}
 use Rattle.sheet.proofs.Composing.{composed-skip, composed-asks, composed-more}
 use Rattle.sheet.proofs.Handing.{empty-unused, handed-used, handed-place}
 use borrow.Author.Needs.{needs}

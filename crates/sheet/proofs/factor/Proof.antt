@@ -1,7 +1,6 @@
 use mathlib.Core.Path.{ap, _∙_}
 use native.Mathlib.Omega.{arith}
-use Rattle.algebra.specs.Polynomial.{limit, terms}
-use Rattle.algebra.specs.Polynomial.{degree}
+use Rattle.algebra.specs.Polynomial.{limit, degree}
 use Rattle.sheet.proofs.Composing.{factor-skip, factor-take}
 use Rattle.sheet.proofs.Handing.{empty-unused, handed-used, handed-place}
 use borrow.Author.Needs.{needs}

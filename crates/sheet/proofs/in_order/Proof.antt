@@ -1,12 +1,8 @@
-use mathlib.Core.Path.{sym, _∙_}
-use borrow.Author.Tests.{not-false}
-use Rattle.area.specs.Area.{place}
-use Rattle.sheet.specs.Sheet.{used}
+use Rattle.area.specs.Area.{place, most-parts, area-words}
+use Rattle.sheet.specs.Sheet.{used, sheet-bytes}
 use Rattle.sheet.proofs.Checking.{later-unused, later-used}
 use Rattle.algebra.specs.Polynomial.{limit, terms}
-use Rattle.area.specs.Area.{most-parts, area-words}
 use Rattle.record.specs.Record.{record-bytes}
-use Rattle.sheet.specs.Sheet.{sheet-bytes}
 use borrow.Author.Needs.{needs}
 use Rattle.sheet.proofs.in_order.Statement.{statement}
 use Rattle.sheet.proofs.in_order.Tie as tie

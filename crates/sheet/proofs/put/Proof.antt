@@ -3,12 +3,10 @@ use mathlib.Core.List.{_++_}
 use Prim.Native.Nat.{_*_, _-_, _≤_}
 use native.Mathlib.Omega.{arith}
 use lib.ListN.{length, drop}
-use Rattle.area.specs.Area.{place}
+use Rattle.area.specs.Area.{place, most-parts, area-words}
 use Rattle.algebra.specs.Polynomial.{limit, terms}
-use Rattle.area.specs.Area.{most-parts, area-words}
 use Rattle.record.specs.Record.{record-bytes}
-use Rattle.sheet.specs.Sheet.{sheet-bytes}
-use Rattle.sheet.specs.Sheet.{joined, recorded, sheet-of}
+use Rattle.sheet.specs.Sheet.{sheet-bytes, joined, recorded, sheet-of}
 use Rattle.sheet.specs.Steps.{put-record}
 use Rattle.sheet.proofs.Joining.{joined-begun, joined-done, put-next}
 use Rattle.sheet.proofs.Words.{recorded-long}

@@ -2,12 +2,10 @@ use mathlib.Core.Path.{_≡_, ap, _∙_}
 use Prim.Native.Nat.{ℕ, _+_, _*_, _-_}
 use native.Mathlib.Omega.{arith}
 use lib.ListN.{length, replicate}
-use Rattle.area.specs.Area.{place}
+use Rattle.area.specs.Area.{place, most-parts, area-words}
 use Rattle.algebra.specs.Polynomial.{limit, terms}
-use Rattle.area.specs.Area.{most-parts, area-words}
 use Rattle.record.specs.Record.{record-bytes}
-use Rattle.sheet.specs.Sheet.{sheet-bytes}
-use Rattle.sheet.specs.Sheet.{record-of}
+use Rattle.sheet.specs.Sheet.{sheet-bytes, record-of}
 use Rattle.sheet.specs.Steps.{put-record}
 use Rattle.sheet.proofs.Joining.{piece-long, cut-long}
 use Rattle.sheet.proofs.Words.{recorded-none, recorded-some}

@@ -2,7 +2,7 @@ use native.Mathlib.Omega.{arith}
 use Rattle.refusal.proofs.Outcomes.{passed-on}
 use Rattle.polynomial.proofs.Acceptance.{accepted-modulus}
 use Rattle.algebra.specs.Polynomial.{limit, terms}
-use Rattle.area.specs.Area.{most-parts, area-words}
+use Rattle.area.specs.Area.{most-parts}
 use Rattle.record.specs.Record.{record-bytes}
 use Rattle.sheet.specs.Sheet.{sheet-bytes}
 use Rattle.sheet.proofs.Answering.{room, read-short, read-refused, taken-used, taken-rising, read-rejected, taken-composes, read-taken}

@@ -1,13 +1,10 @@
-use mathlib.Core.Path.{_≡_, ap, _∙_}
+use mathlib.Core.Path.{ap, _∙_}
 use mathlib.Core.List.{List}
 use Prim.Native.Nat.{ℕ}
 use native.Mathlib.Omega.{arith}
-use lib.ListN.{length}
-use Rattle.area.specs.Area.{put-at}
-use Rattle.record.specs.Record.{word, coefficients}
+use Rattle.area.specs.Area.{put-at, most-parts, area-words}
+use Rattle.record.specs.Record.{word, coefficients, record-bytes}
 use Rattle.algebra.specs.Polynomial.{limit, terms}
-use Rattle.area.specs.Area.{most-parts, area-words}
-use Rattle.record.specs.Record.{record-bytes}
 use Rattle.sheet.specs.Sheet.{sheet-bytes}
 use Rattle.sheet.proofs.Joining.{cut, piece-long, cut-long}
 use Rattle.sheet.proofs.Taking.{placed-unused, placed-used}

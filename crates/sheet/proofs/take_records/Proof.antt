@@ -1,16 +1,14 @@
 use mathlib.Core.Path.{_≡_, sym, ap, _∙_}
-use mathlib.Core.List.{List, _++_}
+use mathlib.Core.List.{_++_}
 use Prim.Native.Nat.{_+_, _*_, _-_, _≤_}
 use native.Mathlib.Omega.{arith}
 use lib.ListN.{length, drop}
 use Rattle.refusal.specs.declared.Outcome.the-variants.{Answered}
 use Rattle.refusal.proofs.Outcomes.{answered}
-use Rattle.area.specs.Area.{put-at, cleared}
+use Rattle.area.specs.Area.{put-at, cleared, most-parts, area-words}
 use Rattle.algebra.specs.Polynomial.{limit, terms}
-use Rattle.area.specs.Area.{most-parts, area-words}
 use Rattle.record.specs.Record.{record-bytes}
-use Rattle.sheet.specs.Sheet.{sheet-bytes}
-use Rattle.sheet.specs.Sheet.{record-at, joined, held, area-of}
+use Rattle.sheet.specs.Sheet.{sheet-bytes, record-at, joined, held, area-of}
 use Rattle.sheet.specs.Checks.{each, check-placed, check-records}
 use Rattle.sheet.proofs.Joining.{joined-begun, joined-done, put-next}
 use Rattle.sheet.proofs.Checking.{each-none, each-more, each-stop, each-done}

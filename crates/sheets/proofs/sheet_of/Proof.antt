@@ -4,8 +4,6 @@ use native.Mathlib.Omega.{arith}
 use lib.ListN.{replicate}
 use Rattle.algebra.specs.Polynomial.{limit, terms}
 use Rattle.area.specs.Area.{most-parts, area-words}
-use Rattle.record.specs.Record.{record-bytes}
-use Rattle.sheet.specs.Sheet.{sheet-bytes}
 use Rattle.sheets.proofs.Writing.{of-refused, of-unchained, of-chained, alone}
 use borrow.Author.Needs.{needs}
 use Rattle.sheets.proofs.sheet_of.Statement.{statement}

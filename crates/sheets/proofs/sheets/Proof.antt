@@ -1,15 +1,13 @@
-use mathlib.Core.Path.{_≡_, refl, ap, subst, sym, _∙_}
+use mathlib.Core.Path.{_≡_, ap, subst, _∙_}
 use mathlib.Core.List.{List, _++_}
-use Prim.Native.Nat.{ℕ, _+_, _*_, _-_, _≤_, min}
+use Prim.Native.Nat.{ℕ, _+_, _*_, _-_, _≤_}
 use native.Mathlib.Omega.{arith}
 use lib.ListN.{length, take, drop, length-take, length-drop}
 use Rattle.area.specs.Area.{most-parts}
 use Rattle.algebra.specs.Polynomial.{limit, terms}
 use Rattle.record.specs.Record.{record-bytes}
 use Rattle.sheet.specs.Sheet.{sheet-bytes}
-use Rattle.sheets.specs.Sheets.{most-records, buffer-bytes, records}
-use Rattle.sheet.specs.Sheet.{record-at}
-use Rattle.sheets.specs.Sheets.{SheetOf}
+use Rattle.sheets.specs.Sheets.{most-records, buffer-bytes, records, SheetOf}
 use Rattle.sheets.proofs.Pieces.{cut-short}
 use Rattle.sheets.proofs.Writing.{Begun, begun-none, begun-more, begun-all}
 use borrow.Author.Needs.{needs}
