@@ -3,7 +3,7 @@
 -- Demand 1: every request gets an answer, and each refusal returns and writes what the table says. That the work ends is what the
 -- check shows of every function; that the contracts determine the answer and each word of lent memory is said here.
 --   record-answer, compose-answer, left-part-answer, split-answer, change-polynomial-answer, change-pair-answer,
---   combine-answer, undo-answer, chain-answer, part-answer
+--   combine-answer, undo-answer, chain-answer, part-answer, write-sheet-answer, read-sheet-answer
 -- Demand 2: the answers are those of Kozen and Landau.
 --   split-exact         where r and s fit and r has no factor in common with m: the pair with h(0) = 0, left and right, exactly if some
 --                       monic g and h of those degrees compose to f; else, and exactly if none do, No. 7 with zeros
@@ -28,6 +28,7 @@ use Rattle.algebra.specs.Change.{Changed}
 use Rattle.algebra.specs.Chain.{Carried}
 use Rattle.algebra.proofs.Factors.{coprime-invertible}
 use Rattle.algebra.proofs.Chains as algebra-law
+use Rattle.refusal.specs.declared.Outcome.{Outcome}
 use Rattle.refusal.specs.declared.Outcome.the-variants.{Answered}
 use Rattle.polynomial.specs.Checks.{check-one, Accepted}
 use Rattle.polynomial.specs.declared.Answer.{Answer}
@@ -48,6 +49,9 @@ use Rattle.chain.specs.declared.Chained.{Chained}
 use Rattle.chain.specs.Chaining.{ChainOf}
 use Rattle.chain.proofs.Promises as chain-law
 use Rattle.chain.proofs.Promises.{Complete, Carries}
+use Rattle.sheet.specs.declared.Contents.{Contents}
+use Rattle.sheet.specs.Answers.{ReadsSheet, WritesSheet}
+use Rattle.sheet.proofs.Promises as sheet-law
 use Rattle.desk.proofs.SplitChanged as split-law
 use Rattle.desk.proofs.SplitChanged.{altered, SplitCarried}
 use Rattle.desk.proofs.ChainChanged as read-law
@@ -85,6 +89,12 @@ chain-answer = chain-law.chain-determined
 
 pub part-answer : (xs : List ℕ) (i : ℕ) {p q : List ℕ} → p ≡ part-of xs i → q ≡ part-of xs i → p ≡ q
 part-answer xs i e f = e ∙ sym f
+
+pub write-sheet-answer : {w : ℕ} {xs b c d : List ℕ} {o p : Outcome} → WritesSheet w xs b c o → WritesSheet w xs b d p → (o ≡ p) × (c ≡ d)
+write-sheet-answer = sheet-law.write-determined
+
+pub read-sheet-answer : {b xs ys zs : List ℕ} {x y : Contents} → ReadsSheet b xs ys x → ReadsSheet b xs zs y → (x ≡ y) × (ys ≡ zs)
+read-sheet-answer = sheet-law.read-determined
 
 -- Demand 2
 
