@@ -30,16 +30,18 @@ loop-holds c = (omega arith, each-none _)
 returns : tie.Need-returns Inv-loop μ-loop
 unfolding most-parts check-moduli
 returns c =
-    let l = c .before .before .before .before .loop in
-    let a = c .before .before .before .before .before .before .before .before .args in
-    rw (← c .before .before .before .before .before .word .ensures) (each-stop _ most-parts _ (omega arith) (l .inv .1) (c .before .before .check-modulus .ensures ∙ ap (λ (t : Bool). refuse (t && not (eqb (word (record-at (a .sheet .now) (l .i)) 0) (c .before .before .before .before .before .word .result))) Neither Sheet) (c .before .before .before .before .before .before .before .before .pre .2 .is (l .i) (omega arith))) (sym (c .before .refuses .ensures) ∙ c .if1 .taken))
+    let turn = c .before .before .before .before in
+    let l = turn .loop in
+    let a = turn .before .before .before .before .args in
+    rw (← turn .before .word .ensures) (each-stop _ most-parts _ (omega arith) (l .inv .1) (c .before .before .check-modulus .ensures ∙ ap (λ (t : Bool). refuse (t && not (eqb (word (record-at (a .sheet .now) (l .i)) 0) (turn .before .word .result))) Neither Sheet) (turn .before .before .before .before .pre .2 .is (l .i) (omega arith))) (sym (c .before .refuses .ensures) ∙ c .if1 .taken))
 
 loop-again : tie.Need-loop-again Inv-loop μ-loop
 unfolding most-parts
 loop-again c =
-    let l = c .before .before .before .before .loop in
-    let a = c .before .before .before .before .before .before .before .before .args in
-    (omega arith, each-more _ (l .inv .1) (c .before .before .check-modulus .ensures ∙ ap (λ (t : Bool). refuse (t && not (eqb (word (record-at (a .sheet .now) (l .i)) 0) (c .before .before .before .before .before .word .result))) Neither Sheet) (c .before .before .before .before .before .before .before .before .pre .2 .is (l .i) (omega arith))) (answered (sym (c .before .refuses .ensures) ∙ c .if1 .left)))
+    let turn = c .before .before .before .before in
+    let l = turn .loop in
+    let a = turn .before .before .before .before .args in
+    (omega arith, each-more _ (l .inv .1) (c .before .before .check-modulus .ensures ∙ ap (λ (t : Bool). refuse (t && not (eqb (word (record-at (a .sheet .now) (l .i)) 0) (turn .before .word .result))) Neither Sheet) (turn .before .before .before .before .pre .2 .is (l .i) (omega arith))) (answered (sym (c .before .refuses .ensures) ∙ c .if1 .left)))
 
 returns-2 : tie.Need-returns-2 Inv-loop μ-loop
 unfolding most-parts check-moduli

@@ -18,17 +18,19 @@ returns c = let u = sym (c .before .used .ensures) ∙ not-true _ (c .if1 .taken
 returns-2 : tie.Need-returns-2
 unfolding sheet-bytes record-bytes area-words most-parts terms limit
 returns-2 c =
-    let a = c .before .before .before .before .before .before .before .args in
+    let one = c .before .before .before in
+    let a = one .before .before .before .before .args in
     let e = c .before .word .ensures ∙ ap (λ (r : List ℕ). word r 0) (cut record-bytes (a .i) (a .sheet .now)) in
-    let u = sym (c .before .before .before .before .used .ensures) ∙ not-false _ (c .before .before .before .if1 .left) in
+    let u = sym (one .before .used .ensures) ∙ not-false _ (one .if1 .left) in
     simp (u, eq-eqb (word (record-at (a .sheet .now) (a .i)) 0) (a .m) (omega (arith, e)))
 
 returns-3 : tie.Need-returns-3
 unfolding sheet-bytes record-bytes area-words most-parts terms limit
 returns-3 c =
-    let a = c .before .before .before .before .before .before .before .before .args in
+    let one = c .before .before .before .before in
+    let a = one .before .before .before .before .args in
     let e = c .before .before .word .ensures ∙ ap (λ (r : List ℕ). word r 0) (cut record-bytes (a .i) (a .sheet .now)) in
-    let u = sym (c .before .before .before .before .before .used .ensures) ∙ not-false _ (c .before .before .before .before .if1 .left) in
+    let u = sym (one .before .used .ensures) ∙ not-false _ (one .if1 .left) in
     simp (u, ne-eqb (word (record-at (a .sheet .now) (a .i)) 0) (a .m) (λ z. omega (arith, e))) (c .refused .ensures)
 
 pub check-modulus-spec : {M : Type 1} → statement M

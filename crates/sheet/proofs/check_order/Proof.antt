@@ -27,11 +27,15 @@ loop-holds c = (omega arith, each-none _)
 
 returns : tie.Need-returns Inv-loop μ-loop
 unfolding most-parts check-order
-returns c = each-stop _ most-parts _ (omega arith) (c .before .before .before .before .loop .inv .1) (c .refused .ensures ∙ sym (ap (λ (t : Bool). refuse t Neither Sheet) (ap not (sym (c .before .before .in-order .ensures)) ∙ c .before .if1 .taken))) (ap is-refused (c .refused .ensures))
+returns c =
+    let turn = c .before .before .before .before in
+    each-stop _ most-parts _ (omega arith) (turn .loop .inv .1) (c .refused .ensures ∙ sym (ap (λ (t : Bool). refuse t Neither Sheet) (ap not (sym (c .before .before .in-order .ensures)) ∙ c .before .if1 .taken))) (ap is-refused (c .refused .ensures))
 
 loop-again : tie.Need-loop-again Inv-loop μ-loop
 unfolding most-parts
-loop-again c = (omega arith, each-more _ {o = Answered} (c .before .before .before .loop .inv .1) (sym (ap (λ (t : Bool). refuse t Neither Sheet) (ap not (sym (c .before .in-order .ensures)) ∙ c .if1 .left))) refl)
+loop-again c =
+    let turn = c .before .before .before in
+    (omega arith, each-more _ {o = Answered} (turn .loop .inv .1) (sym (ap (λ (t : Bool). refuse t Neither Sheet) (ap not (sym (c .before .in-order .ensures)) ∙ c .if1 .left))) refl)
 
 returns-2 : tie.Need-returns-2 Inv-loop μ-loop
 unfolding most-parts check-order

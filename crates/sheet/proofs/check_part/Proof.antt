@@ -28,9 +28,10 @@ check-polynomial-requires c κs =
 returns-2 : tie.Need-returns-2
 unfolding check-part
 returns-2 c =
-    let p = c .before .before .before .before .before .pre in
-    let a = c .before .before .before .before .before .args in
-    simp (handed-used _ _ (p .0) (p .1) (c .before .before .before .part .ensures) (c .before .before .if1 .left)) (c .check-polynomial .ensures ∙ ap (λ (q : List ℕ). check-polynomial (Place (a .i)) (a .m) q) (handed-place _ _ (p .0) (p .1) (c .before .before .before .part .ensures) (c .before .before .if1 .left)))
+    let one = c .before .before in
+    let p = one .before .before .before .pre in
+    let a = one .before .before .before .args in
+    simp (handed-used _ _ (p .0) (p .1) (one .before .part .ensures) (c .before .before .if1 .left)) (c .check-polynomial .ensures ∙ ap (λ (q : List ℕ). check-polynomial (Place (a .i)) (a .m) q) (handed-place _ _ (p .0) (p .1) (one .before .part .ensures) (c .before .before .if1 .left)))
 
 pub check-part-spec : {M : Type 1} → statement M
 check-part-spec =

@@ -24,11 +24,15 @@ loop-holds c = (omega arith, each-none _)
 
 returns : tie.Need-returns Inv-loop μ-loop
 unfolding most-parts check-parts
-returns c = each-stop _ most-parts _ (omega arith) (c .before .before .before .before .loop .inv .1) (c .before .before .check-part .ensures) (sym (c .before .refuses .ensures) ∙ c .if1 .taken)
+returns c =
+    let turn = c .before .before .before .before in
+    each-stop _ most-parts _ (omega arith) (turn .loop .inv .1) (c .before .before .check-part .ensures) (sym (c .before .refuses .ensures) ∙ c .if1 .taken)
 
 loop-again : tie.Need-loop-again Inv-loop μ-loop
 unfolding most-parts
-loop-again c = (omega arith, each-more _ (c .before .before .before .before .loop .inv .1) (c .before .before .check-part .ensures) (answered (sym (c .before .refuses .ensures) ∙ c .if1 .left)))
+loop-again c =
+    let turn = c .before .before .before .before in
+    (omega arith, each-more _ (turn .loop .inv .1) (c .before .before .check-part .ensures) (answered (sym (c .before .refuses .ensures) ∙ c .if1 .left)))
 
 returns-2 : tie.Need-returns-2 Inv-loop μ-loop
 unfolding most-parts check-parts

@@ -29,13 +29,16 @@ mul-n c = omega (arith, N.mul-le-mul (c .factor .ensures .2) (c .before .before 
 returns : tie.Need-returns Inv-loop μ-loop
 unfolding most-parts limit
 returns c =
-    let l = c .before .before .before .before .loop in
+    let turn = c .before .before .before .before in
+    let l = turn .loop in
     let f = c .before .before .factor in
-    above-product _ (c .before .before .before .before .before .before .pre .1) (l .i + 1) (omega arith) (ap (λ (x : ℕ). f .result * x) (l .inv .1) ∙ sym (f .ensures .0)) (c .before .if1 .taken) (c .refused .ensures)
+    above-product _ (turn .before .before .pre .1) (l .i + 1) (omega arith) (ap (λ (x : ℕ). f .result * x) (l .inv .1) ∙ sym (f .ensures .0)) (c .before .if1 .taken) (c .refused .ensures)
 
 loop-again : tie.Need-loop-again Inv-loop μ-loop
 unfolding most-parts limit
-loop-again c = (omega arith, ap (λ (x : ℕ). c .before .factor .result * x) (c .before .before .before .loop .inv .1) ∙ sym (c .before .factor .ensures .0), omega arith)
+loop-again c =
+    let turn = c .before .before .before in
+    (omega arith, ap (λ (x : ℕ). c .before .factor .result * x) (turn .loop .inv .1) ∙ sym (c .before .factor .ensures .0), omega arith)
 
 returns-2 : tie.Need-returns-2 Inv-loop μ-loop
 unfolding most-parts

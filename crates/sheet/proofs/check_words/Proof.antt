@@ -19,7 +19,9 @@ check-polynomial-requires c κs = record { long = c .before .before .before .bef
 
 returns-2 : tie.Need-returns-2
 unfolding check-words
-returns-2 c = rw (← c .before .before .before .before .before .modulus .ensures) (went-on (c .before .before .before .before .check-modulus .ensures) (c .before .before .before .refuses .ensures) (c .before .before .if1 .left) (c .check-polynomial .ensures))
+returns-2 c =
+    let one = c .before .before in
+    rw (← one .before .before .before .modulus .ensures) (went-on (one .before .before .check-modulus .ensures) (one .before .refuses .ensures) (c .before .before .if1 .left) (c .check-polynomial .ensures))
 
 pub check-words-spec : {M : Type 1} → statement M
 check-words-spec =

@@ -32,8 +32,9 @@ loop-again c = (omega arith, c .composed-with .ensures)
 returns : tie.Need-returns Inv-loop μ-loop
 unfolding most-parts
 returns c =
+    let turn = c .before .before in
     let l = c .before .before .loop in
-    let a = c .before .before .before .before .before .args in
+    let a = turn .before .before .before .args in
     let e : l .i ≡ most-parts = omega arith in
     l .inv .1 .polynomial-is ∙ ap (λ (n : ℕ). reduced (a .m) (composed (parts-in (place (a .area .now)) n))) e
 

@@ -26,8 +26,9 @@ loop-holds c = (omega arith, search needs, joined-begun _ record-bytes _)
 loop-again : tie.Need-loop-again Inv-loop μ-loop
 unfolding most-parts put-record
 loop-again c =
-    let l = c .before .before .before .before .before .loop in
-    let a = c .before .before .before .before .before .before .before .before .args in
+    let turn = c .before .before .before .before .before in
+    let l = turn .loop in
+    let a = turn .before .before .before .args in
     (omega arith, search needs, put-next (λ i. recorded (a .m) (place (a .area .now) i)) record-bytes (λ i. recorded-long (a .m) (place (a .area .now) i)) _ _ (l .i) (l .inv .2) (c .before .before .put-place .ensures))
 
 returns : tie.Need-returns Inv-loop μ-loop

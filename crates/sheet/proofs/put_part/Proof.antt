@@ -24,9 +24,10 @@ loop-holds c = let a = c .before .before .before .before .before .before .args i
 loop-again : tie.Need-loop-again Inv-loop μ-loop
 unfolding terms limit
 loop-again c =
-    let l = c .before .before .before .before .before .before .loop in
-    let a = c .before .before .before .before .before .before .before .before .before .before .before .before .before .args in
-    (omega arith, search needs, word-next (a .m) (a .p .now) (c .before .before .before .before .before .before .before .before .before .put-word .last .0) (l .r) (l .j) (l .inv .2) (c .before .before .put-word2 .ensures))
+    let turn = c .before .before .before .before .before .before in
+    let l = turn .loop in
+    let a = turn .before .before .before .before .before .before .before .args in
+    (omega arith, search needs, word-next (a .m) (a .p .now) (turn .before .before .before .put-word .last .0) (l .r) (l .j) (l .inv .2) (c .before .before .put-word2 .ensures))
 
 returns : tie.Need-returns Inv-loop μ-loop
 unfolding record-bytes terms limit

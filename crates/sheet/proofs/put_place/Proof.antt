@@ -17,12 +17,13 @@ use Rattle.sheet.proofs.put_place.Tie as tie
 returns : tie.Need-returns
 unfolding put-record sheet-bytes record-bytes area-words most-parts terms limit
 returns c =
-    let a = c .before .before .before .before .before .before .before .before .args in
-    let p = c .before .before .before .before .before .before .before .before .pre in
+    let one = c .before .before .before .before in
+    let a = one .before .before .before .before .args in
+    let p = one .before .before .before .before .pre in
     let e : a .i * record-bytes + record-bytes - a .i * record-bytes ≡ record-bytes = omega arith in
     rw (c .before .before .blank .ensures, e)
     (ap (put-record (a .sheet .now) (a .i)) (ap (λ (n : ℕ). replicate n 0) (piece-long record-bytes most-parts (a .i) (a .sheet .now) (p .2) (p .0))
-    ∙ recorded-none (a .m) (place (a .area .now) (a .i)) (empty-unused _ _ (p .0) (p .1) (c .before .before .before .before .before .part .ensures) (c .before .before .before .before .if1 .taken))))
+    ∙ recorded-none (a .m) (place (a .area .now) (a .i)) (empty-unused _ _ (p .0) (p .1) (one .before .part .ensures) (one .if1 .taken))))
 
 put-part-requires : tie.Need-put-part-requires
 unfolding sheet-bytes record-bytes area-words most-parts terms limit
@@ -34,12 +35,13 @@ put-part-requires c κs =
 returns-2 : tie.Need-returns-2
 unfolding put-record sheet-bytes record-bytes area-words most-parts terms limit
 returns-2 c =
-    let a = c .before .before .before .before .before .before .before .before .args in
-    let p = c .before .before .before .before .before .before .before .before .pre in
+    let one = c .before .before .before .before in
+    let a = one .before .before .before .before .args in
+    let p = one .before .before .before .before .pre in
     let e : a .i * record-bytes + record-bytes - a .i * record-bytes ≡ record-bytes = omega arith in
     rw (c .before .before .put-part .ensures, e)
-    (ap (put-record (a .sheet .now) (a .i)) (ap (record-of (a .m)) (handed-place _ _ (p .0) (p .1) (c .before .before .before .before .before .part .ensures) (c .before .before .before .before .if1 .left))
-    ∙ recorded-some (a .m) (place (a .area .now) (a .i)) (handed-used _ _ (p .0) (p .1) (c .before .before .before .before .before .part .ensures) (c .before .before .before .before .if1 .left))))
+    (ap (put-record (a .sheet .now) (a .i)) (ap (record-of (a .m)) (handed-place _ _ (p .0) (p .1) (one .before .part .ensures) (one .if1 .left))
+    ∙ recorded-some (a .m) (place (a .area .now) (a .i)) (handed-used _ _ (p .0) (p .1) (one .before .part .ensures) (one .if1 .left))))
 
 pub put-place-spec : {M : Type 1} → statement M
 unfolding sheet-bytes record-bytes area-words most-parts terms limit

@@ -17,34 +17,55 @@ take-records-requires : tie.Need-take-records-requires
 take-records-requires c κs = room _ _ (passed-on (c .before .before .before .check-room .ensures) (c .before .before .refuses .ensures) (c .before .if1 .left))
 
 refuse-requires : tie.Need-refuse-requires
-refuse-requires c κs = let (x, y) = room _ _ (passed-on (c .before .before .before .before .before .before .before .before .before .check-room .ensures) (c .before .before .before .before .before .before .before .before .refuses .ensures) (c .before .before .before .before .before .before .before .if1 .left)) in omega (arith, y)
+refuse-requires c κs =
+    let one = c .before .before .before .before .before .before .before in
+    let (x, y) = room _ _ (passed-on (one .before .before .check-room .ensures) (one .before .refuses .ensures) (one .if1 .left)) in omega (arith, y)
 
 returns-2 : tie.Need-returns-2
-returns-2 c = read-refused _ _ (c .before .before .before .before .before .before .before .before .before .before .before .before .check-room .ensures) (c .before .before .before .before .before .before .before .before .before .before .before .refuses .ensures) (c .before .before .before .before .before .before .before .before .before .before .if1 .left) (c .before .before .before .before .before .before .before .before .take-records .ensures) (c .before .before .before .before .before .refuses2 .ensures) (c .before .before .before .before .if2 .taken) (c .before .before .refuse .ensures)
+returns-2 c =
+    let two = c .before .before .before .before in
+    let one = two .before .before .before .before .before .before in
+    read-refused _ _ (one .before .before .check-room .ensures) (one .before .refuses .ensures) (one .if1 .left) (two .before .before .before .before .take-records .ensures) (two .before .refuses2 .ensures) (two .if2 .taken) (c .before .before .refuse .ensures)
 
 check-taken-requires : tie.Need-check-taken-requires
 check-taken-requires c κs =
-    let (x, y) = room _ _ (passed-on (c .before .before .before .before .before .before .before .before .before .check-room .ensures) (c .before .before .before .before .before .before .before .before .refuses .ensures) (c .before .before .before .before .before .before .before .if1 .left)) in
-    (x, omega (arith, y), taken-used _ _ (c .before .before .before .before .before .before .before .before .before .check-room .ensures) (c .before .before .before .before .before .before .before .before .refuses .ensures) (c .before .before .before .before .before .before .before .if1 .left) (c .before .before .before .before .before .take-records .ensures) (c .before .before .refuses2 .ensures) (c .before .if2 .left), taken-rising _ _ (c .before .before .before .before .before .before .before .before .before .check-room .ensures) (c .before .before .before .before .before .before .before .before .refuses .ensures) (c .before .before .before .before .before .before .before .if1 .left) (c .before .before .before .before .before .take-records .ensures) (c .before .before .refuses2 .ensures) (c .before .if2 .left))
+    let one = c .before .before .before .before .before .before .before in
+    let (x, y) = room _ _ (passed-on (one .before .before .check-room .ensures) (one .before .refuses .ensures) (one .if1 .left)) in
+    (x, omega (arith, y), taken-used _ _ (one .before .before .check-room .ensures) (one .before .refuses .ensures) (one .if1 .left) (c .before .before .before .before .before .take-records .ensures) (c .before .before .refuses2 .ensures) (c .before .if2 .left), taken-rising _ _ (one .before .before .check-room .ensures) (one .before .refuses .ensures) (one .if1 .left) (c .before .before .before .before .before .take-records .ensures) (c .before .before .refuses2 .ensures) (c .before .if2 .left))
 
 refuse-requires-2 : tie.Need-refuse-requires-2
-refuse-requires-2 c κs = let (x, y) = room _ _ (passed-on (c .before .before .before .before .before .before .before .before .before .before .before .before .before .check-room .ensures) (c .before .before .before .before .before .before .before .before .before .before .before .before .refuses .ensures) (c .before .before .before .before .before .before .before .before .before .before .before .if1 .left)) in omega (arith, y)
+refuse-requires-2 c κs =
+    let one = c .before .before .before .before .before .before .before .before .before .before .before in
+    let (x, y) = room _ _ (passed-on (one .before .before .check-room .ensures) (one .before .refuses .ensures) (one .if1 .left)) in omega (arith, y)
 
 returns-3 : tie.Need-returns-3
-returns-3 c = read-rejected _ _ (c .before .before .before .before .before .before .before .before .before .before .before .before .before .before .before .before .check-room .ensures) (c .before .before .before .before .before .before .before .before .before .before .before .before .before .before .before .refuses .ensures) (c .before .before .before .before .before .before .before .before .before .before .before .before .before .before .if1 .left) (c .before .before .before .before .before .before .before .before .before .before .before .before .take-records .ensures) (c .before .before .before .before .before .before .before .before .before .refuses2 .ensures) (c .before .before .before .before .before .before .before .before .if2 .left) (c .before .before .before .before .before .before .check-taken .ensures) (c .before .before .before .before .before .refuses3 .ensures) (c .before .before .before .before .if3 .taken) (c .before .before .refuse2 .ensures)
+returns-3 c =
+    let three = c .before .before .before .before in
+    let two = three .before .before .before .before in
+    let one = two .before .before .before .before .before .before in
+    read-rejected _ _ (one .before .before .check-room .ensures) (one .before .refuses .ensures) (one .if1 .left) (two .before .before .before .before .take-records .ensures) (two .before .refuses2 .ensures) (two .if2 .left) (three .before .before .check-taken .ensures) (three .before .refuses3 .ensures) (three .if3 .taken) (c .before .before .refuse2 .ensures)
 
 word-requires : tie.Need-word-requires
 unfolding sheet-bytes record-bytes most-parts terms limit
-word-requires c κs = let (x, y) = room _ _ (passed-on (c .before .before .before .before .before .before .before .before .before .before .before .before .check-room .ensures) (c .before .before .before .before .before .before .before .before .before .before .before .refuses .ensures) (c .before .before .before .before .before .before .before .before .before .before .if1 .left)) in omega (arith, x)
+word-requires c κs =
+    let one = c .before .before .before .before .before .before .before .before .before .before in
+    let (x, y) = room _ _ (passed-on (one .before .before .check-room .ensures) (one .before .refuses .ensures) (one .if1 .left)) in omega (arith, x)
 
 compose-requires : tie.Need-compose-requires
 compose-requires c κs =
-    let (x, y) = room _ _ (passed-on (c .before .before .before .before .before .before .before .before .before .before .before .before .before .before .before .check-room .ensures) (c .before .before .before .before .before .before .before .before .before .before .before .before .before .before .refuses .ensures) (c .before .before .before .before .before .before .before .before .before .before .before .before .before .if1 .left)) in
-    let (one, k) = taken-composes _ _ (c .before .before .before .before .before .before .before .before .before .before .before .before .before .before .before .check-room .ensures) (c .before .before .before .before .before .before .before .before .before .before .before .before .before .before .refuses .ensures) (c .before .before .before .before .before .before .before .before .before .before .before .before .before .if1 .left) (c .before .before .before .before .before .before .before .before .before .before .before .take-records .ensures) (c .before .before .before .before .before .before .before .before .refuses2 .ensures) (c .before .before .before .before .before .before .before .if2 .left) (c .before .before .before .before .before .check-taken .ensures) (c .before .before .before .before .refuses3 .ensures) (c .before .before .before .if3 .left) in
-    rw (c .modulus .ensures, c .before .before .word .ensures) (accepted-modulus one, omega (arith, y), k)
+    let three = c .before .before .before in
+    let two = three .before .before .before .before in
+    let one = two .before .before .before .before .before .before in
+    let (x, y) = room _ _ (passed-on (one .before .before .check-room .ensures) (one .before .refuses .ensures) (one .if1 .left)) in
+    let (passes, k) = taken-composes _ _ (one .before .before .check-room .ensures) (one .before .refuses .ensures) (one .if1 .left) (two .before .before .before .before .take-records .ensures) (two .before .refuses2 .ensures) (two .if2 .left) (three .before .before .check-taken .ensures) (three .before .refuses3 .ensures) (three .if3 .left) in
+    rw (c .modulus .ensures, c .before .before .word .ensures) (accepted-modulus passes, omega (arith, y), k)
 
 returns-4 : tie.Need-returns-4
-returns-4 c = read-taken _ _ (c .before .before .before .before .before .before .before .before .before .before .before .before .before .before .before .before .check-room .ensures) (c .before .before .before .before .before .before .before .before .before .before .before .before .before .before .before .refuses .ensures) (c .before .before .before .before .before .before .before .before .before .before .before .before .before .before .if1 .left) (c .before .before .before .before .before .before .before .before .before .before .before .before .take-records .ensures) (c .before .before .before .before .before .before .before .before .before .refuses2 .ensures) (c .before .before .before .before .before .before .before .before .if2 .left) (c .before .before .before .before .before .before .check-taken .ensures) (c .before .before .before .before .before .refuses3 .ensures) (c .before .before .before .before .if3 .left) (c .before .before .before .word .ensures) (c .before .modulus .ensures) (c .compose .ensures)
+returns-4 c =
+    let three = c .before .before .before .before in
+    let two = three .before .before .before .before in
+    let one = two .before .before .before .before .before .before in
+    read-taken _ _ (one .before .before .check-room .ensures) (one .before .refuses .ensures) (one .if1 .left) (two .before .before .before .before .take-records .ensures) (two .before .refuses2 .ensures) (two .if2 .left) (three .before .before .check-taken .ensures) (three .before .refuses3 .ensures) (three .if3 .left) (c .before .before .before .word .ensures) (c .before .modulus .ensures) (c .compose .ensures)
 
 pub read-spec : {M : Type 1} → statement M
 read-spec =

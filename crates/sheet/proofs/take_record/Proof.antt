@@ -22,16 +22,31 @@ coefficients-requires c κs =
 returns : tie.Need-returns
 unfolding sheet-bytes record-bytes area-words most-parts terms limit
 returns c =
-    let a = c .before .before .before .before .before .before .before .before .before .before .before .before .before .args in
-    let p = c .before .before .before .before .before .before .before .before .before .before .before .before .before .pre in
-    (placed-unused _ _ (piece-long record-bytes most-parts (a .i) (a .sheet .now) (p .1) (p .0)) (c .before .before .before .before .before .before .before .before .before .word .ensures ∙ ap (λ (r : List ℕ). word r 0) (cut record-bytes (a .i) (a .sheet .now))) (c .before .before .before .before .before .before .before .before .coefficients .ensures ∙ ap coefficients (cut record-bytes (a .i) (a .sheet .now))) (c .before .is-blank .ensures) (c .if1 .taken), c .before .before .before .before .before .put .ensures ∙ ap (put-at (a .area .now) (a .i)) (c .before .before .before .before .before .before .before .before .coefficients .ensures ∙ ap coefficients (cut record-bytes (a .i) (a .sheet .now))))
+    let put = c .before .before .before .before .before in
+    let taken = put .before .before .before in
+    let start = taken .before .before .before .before .before in
+    let a = start .args in
+    let p = start .pre in
+    let w = taken .before .word .ensures ∙ ap (λ (r : List ℕ). word r 0) (cut record-bytes (a .i) (a .sheet .now)) in
+    let f = taken .coefficients .ensures ∙ ap coefficients (cut record-bytes (a .i) (a .sheet .now)) in (
+      placed-unused _ _ (piece-long record-bytes most-parts (a .i) (a .sheet .now) (p .1) (p .0)) w f (c .before .is-blank .ensures) (c .if1 .taken),
+      put .put .ensures ∙ ap (put-at (a .area .now) (a .i)) f,
+    )
 
 returns-2 : tie.Need-returns-2
 unfolding sheet-bytes record-bytes area-words most-parts terms limit
 returns-2 c =
-    let a = c .before .before .before .before .before .before .before .before .before .before .before .before .before .before .before .args in
-    let p = c .before .before .before .before .before .before .before .before .before .before .before .before .before .before .before .pre in
-    (placed-used _ _ (piece-long record-bytes most-parts (a .i) (a .sheet .now) (p .1) (p .0)) (c .before .before .before .before .before .before .before .before .before .before .before .word .ensures ∙ ap (λ (r : List ℕ). word r 0) (cut record-bytes (a .i) (a .sheet .now))) (c .before .before .before .before .before .before .before .before .before .before .coefficients .ensures ∙ ap coefficients (cut record-bytes (a .i) (a .sheet .now))) (c .before .before .before .is-blank .ensures) (c .before .before .if1 .left) (c .check-words .ensures), c .before .before .before .before .before .before .before .put .ensures ∙ ap (put-at (a .area .now) (a .i)) (c .before .before .before .before .before .before .before .before .before .before .coefficients .ensures ∙ ap coefficients (cut record-bytes (a .i) (a .sheet .now))))
+    let one = c .before .before in
+    let put = one .before .before .before .before .before in
+    let taken = put .before .before .before in
+    let start = taken .before .before .before .before .before in
+    let a = start .args in
+    let p = start .pre in
+    let w = taken .before .word .ensures ∙ ap (λ (r : List ℕ). word r 0) (cut record-bytes (a .i) (a .sheet .now)) in
+    let f = taken .coefficients .ensures ∙ ap coefficients (cut record-bytes (a .i) (a .sheet .now)) in (
+      placed-used _ _ (piece-long record-bytes most-parts (a .i) (a .sheet .now) (p .1) (p .0)) w f (one .before .is-blank .ensures) (one .if1 .left) (c .check-words .ensures),
+      put .put .ensures ∙ ap (put-at (a .area .now) (a .i)) f,
+    )
 
 pub take-record-spec : {M : Type 1} → statement M
 unfolding sheet-bytes record-bytes area-words most-parts terms limit

@@ -29,8 +29,9 @@ loop-holds c = (omega arith, search needs, each-none _, joined-begun _ terms _)
 returns : tie.Need-returns Inv-loop μ-loop
 unfolding most-parts check-records put-at
 returns c =
-    let l = c .before .before .before .before .before .before .before .loop in
-    let a = c .before .before .before .before .before .before .before .before .before .before .args in
+    let turn = c .before .before .before .before .before .before .before in
+    let l = turn .loop in
+    let a = turn .before .before .before .args in
     let r = sym (c .before .refuses .ensures) ∙ c .if1 .taken in
     let z = put-next (held (a .sheet .now)) terms (held-long (a .sheet .now)) (a .area .now) _ (l .i) (l .inv .3) (c .before .before .before .before .take-record .ensures .1) in
     record {
@@ -42,8 +43,9 @@ returns c =
 loop-again : tie.Need-loop-again Inv-loop μ-loop
 unfolding most-parts put-at
 loop-again c =
-    let l = c .before .before .before .before .before .before .before .loop in
-    let a = c .before .before .before .before .before .before .before .before .before .before .args in (
+    let turn = c .before .before .before .before .before .before .before in
+    let l = turn .loop in
+    let a = turn .before .before .before .args in (
       omega arith,
       search needs,
       each-more _ (l .inv .2) (c .before .before .before .before .take-record .ensures .0) (answered (sym (c .before .refuses .ensures) ∙ c .if1 .left)),

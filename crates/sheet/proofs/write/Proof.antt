@@ -11,13 +11,20 @@ check-area-requires : tie.Need-check-area-requires
 check-area-requires c κs = room _ _ (passed-on (c .before .before .check-room .ensures) (c .before .refuses .ensures) (c .if1 .left)) .1
 
 returns-2 : tie.Need-returns-2
-returns-2 c = write-refused _ _ _ (c .before .before .before .before .before .check-room .ensures) (c .before .before .before .before .refuses .ensures) (c .before .before .before .if1 .left) (c .before .before .check-area .ensures) (c .before .refuses2 .ensures) (c .if2 .taken)
+returns-2 c =
+    let one = c .before .before .before in
+    write-refused _ _ _ (one .before .before .check-room .ensures) (one .before .refuses .ensures) (one .if1 .left) (c .before .before .check-area .ensures) (c .before .refuses2 .ensures) (c .if2 .taken)
 
 put-requires : tie.Need-put-requires
-put-requires c κs = let (x, y) = room _ _ (passed-on (c .before .before .before .before .before .before .check-room .ensures) (c .before .before .before .before .before .refuses .ensures) (c .before .before .before .before .if1 .left)) in (y, x)
+put-requires c κs =
+    let one = c .before .before .before .before in
+    let (x, y) = room _ _ (passed-on (one .before .before .check-room .ensures) (one .before .refuses .ensures) (one .if1 .left)) in (y, x)
 
 returns-3 : tie.Need-returns-3
-returns-3 c = write-made _ _ _ (c .before .before .before .before .before .before .before .before .before .check-room .ensures) (c .before .before .before .before .before .before .before .before .refuses .ensures) (c .before .before .before .before .before .before .before .if1 .left) (c .before .before .before .before .before .before .check-area .ensures) (c .before .before .before .before .before .refuses2 .ensures) (c .before .before .before .before .if2 .left) (c .before .before .put .ensures)
+returns-3 c =
+    let two = c .before .before .before .before in
+    let one = two .before .before .before in
+    write-made _ _ _ (one .before .before .check-room .ensures) (one .before .refuses .ensures) (one .if1 .left) (two .before .before .check-area .ensures) (two .before .refuses2 .ensures) (two .if2 .left) (c .before .before .put .ensures)
 
 pub write-spec : {M : Type 1} → statement M
 write-spec =

@@ -10,11 +10,16 @@ use Rattle.sheets.proofs.sheet_of.Statement.{statement}
 use Rattle.sheets.proofs.sheet_of.Tie as tie
 
 returns : tie.Need-returns
-returns c = of-refused _ (c .before .before .before .before .before .before .check .ensures) (c .before .before .before .before .before .refuses .ensures) (c .before .before .before .before .if1 .taken) (c .before .before .blank .ensures ∙ ap (λ (n : ℕ). replicate n 0) (c .before .before .before .before .before .before .before .before .before .pre))
+returns c =
+    let one = c .before .before .before .before in
+    of-refused _ (one .before .before .check .ensures) (one .before .refuses .ensures) (one .if1 .taken) (c .before .before .blank .ensures ∙ ap (λ (n : ℕ). replicate n 0) (one .before .before .before .before .before .pre))
 
 returns-2 : tie.Need-returns-2
 unfolding area-words most-parts terms limit
-returns-2 c = of-unchained _ (c .before .before .before .before .before .before .before .before .before .before .before .before .check .ensures) (c .before .before .before .before .before .before .before .before .before .before .before .refuses .ensures) (c .before .before .before .before .before .before .before .before .before .before .if1 .left) (c .before .before .before .before .before .before .before .chain .ensures) (c .before .before .before .before .before .refuses2 .ensures) (c .before .before .before .before .if2 .taken) (c .before .before .blank2 .ensures ∙ ap (λ (n : ℕ). replicate n 0) (c .before .before .before .before .before .before .before .before .before .before .before .before .before .before .before .pre))
+returns-2 c =
+    let two = c .before .before .before .before in
+    let one = two .before .before .before .before .before .before in
+    of-unchained _ (one .before .before .check .ensures) (one .before .refuses .ensures) (one .if1 .left) (two .before .before .before .chain .ensures) (two .before .refuses2 .ensures) (two .if2 .taken) (c .before .before .blank2 .ensures ∙ ap (λ (n : ℕ). replicate n 0) (one .before .before .before .before .before .pre))
 
 put-requires : tie.Need-put-requires
 unfolding area-words most-parts terms limit
@@ -22,7 +27,10 @@ put-requires c κs = (omega arith, omega arith)
 
 returns-3 : tie.Need-returns-3
 unfolding area-words most-parts terms limit
-returns-3 c = of-chained _ (c .before .before .before .before .before .before .before .before .before .before .before .before .before .check .ensures) (c .before .before .before .before .before .before .before .before .before .before .before .before .refuses .ensures) (c .before .before .before .before .before .before .before .before .before .before .before .if1 .left) (c .before .before .before .before .before .before .before .before .chain .ensures) (c .before .before .before .before .before .before .refuses2 .ensures) (c .before .before .before .before .before .if2 .left) (alone _ (c .before .before .before .before .before .before .before .before .before .before .before .before .before .before .before .before .pre) (c .before .before .put .ensures))
+returns-3 c =
+    let two = c .before .before .before .before .before in
+    let one = two .before .before .before .before .before .before in
+    of-chained _ (one .before .before .check .ensures) (one .before .refuses .ensures) (one .if1 .left) (two .before .before .before .chain .ensures) (two .before .refuses2 .ensures) (two .if2 .left) (alone _ (one .before .before .before .before .before .pre) (c .before .before .put .ensures))
 
 pub sheet-of-spec : {M : Type 1} → statement M
 sheet-of-spec =

@@ -26,11 +26,12 @@ loop-holds c = (omega arith, search needs, begun-none _ _)
 loop-again : tie.Need-loop-again Inv-loop μ-loop
 unfolding records buffer-bytes most-records sheet-bytes record-bytes most-parts terms limit
 loop-again c =
-    let l = c .before .before .before .before .before .before .before .loop in
-    let a = c .before .before .before .before .before .before .before .before .before .before .before .args in
+    let turn = c .before .before .before .before .before .before .before in
+    let l = turn .loop in
+    let a = turn .before .before .before .before .args in
     let e : l .i * sheet-bytes + sheet-bytes - l .i * sheet-bytes ≡ sheet-bytes = omega arith in
     let new = subst (λ (r : List ℕ). SheetOf r (c .before .before .sheet-of .last .1 .0)) (ap (λ (n : ℕ). take (n - l .i * record-bytes) (drop (l .i * record-bytes) (a .s .now))) (c .before .before .before .before .before .smaller .ensures) ∙ cut-short (l .i * record-bytes) record-bytes (a .s .now)) (c .before .before .sheet-of .ensures) in
-    (omega arith, search needs, begun-more (a .s .now) (a .out .now) (l .i) (omega (arith, c .before .before .before .before .before .before .before .before .records .ensures)) (search needs) (l .inv .2) new (ap (λ (n : ℕ). take (l .i * sheet-bytes) (l .out) ++ (c .before .before .sheet-of .last .1 .0 ++ drop n (drop (l .i * sheet-bytes) (l .out)))) e))
+    (omega arith, search needs, begun-more (a .s .now) (a .out .now) (l .i) (omega (arith, turn .before .records .ensures)) (search needs) (l .inv .2) new (ap (λ (n : ℕ). take (l .i * sheet-bytes) (l .out) ++ (c .before .before .sheet-of .last .1 .0 ++ drop n (drop (l .i * sheet-bytes) (l .out)))) e))
 
 returns : tie.Need-returns Inv-loop μ-loop
 unfolding records buffer-bytes most-records sheet-bytes record-bytes most-parts terms limit
@@ -51,15 +52,15 @@ sheets-spec =
     (λ c. omega (arith, c .before .before .records .ensures))
     (λ c. omega (arith, c .before .before .records .ensures))
     (λ c κs. search needs)
-    (λ c. omega (arith, c .before .before .before .records .ensures))
-    (λ c. omega (arith, c .before .before .before .records .ensures))
-    (λ c. omega (arith, c .smaller .ensures, c .before .before .before .records .ensures))
-    (λ c. omega (arith, c .smaller .ensures, c .before .before .before .records .ensures))
-    (λ c. omega (arith, c .smaller .ensures, c .before .before .before .records .ensures))
-    (λ c. omega (arith, c .before .smaller .ensures, c .before .before .before .before .records .ensures))
-    (λ c. omega (arith, c .before .smaller .ensures, c .before .before .before .before .records .ensures))
-    (λ c. omega (arith, c .before .smaller .ensures, c .before .before .before .before .records .ensures))
-    (λ c κs. simp (length-take, length-drop) (omega (arith, c .before .before .before .before .before .records .ensures)))
+    (λ c. let turn = c .before .before in omega (arith, turn .before .records .ensures))
+    (λ c. let turn = c .before .before in omega (arith, turn .before .records .ensures))
+    (λ c. let turn = c .before .before in omega (arith, c .smaller .ensures, turn .before .records .ensures))
+    (λ c. let turn = c .before .before in omega (arith, c .smaller .ensures, turn .before .records .ensures))
+    (λ c. let turn = c .before .before in omega (arith, c .smaller .ensures, turn .before .records .ensures))
+    (λ c. let turn = c .before .before .before in omega (arith, c .before .smaller .ensures, turn .before .records .ensures))
+    (λ c. let turn = c .before .before .before in omega (arith, c .before .smaller .ensures, turn .before .records .ensures))
+    (λ c. let turn = c .before .before .before in omega (arith, c .before .smaller .ensures, turn .before .records .ensures))
+    (λ c κs. let turn = c .before .before .before .before in simp (length-take, length-drop) (omega (arith, turn .before .records .ensures)))
     (λ c. omega arith)
     (λ c. omega arith)
     loop-again
