@@ -2,6 +2,7 @@
 --
 --   coefficients-first          No. 2 comes before 3 and 4
 --   two-after-one               the checks of two polynomials are those of the first, then 2, 3, 4 for the second
+--   neither                     two tests of which neither holds
 --   accepted-polynomial, polynomial-accepted     what passes 2, 3, 4, whichever it is called, is accepted, and what is accepted passes
 --   accepted-one, one-accepted  what passes the checks of one polynomial is accepted, and what is accepted passes them
 --   accepted-two, two-accepted  the same for two
@@ -49,7 +50,8 @@ pub two-after-one : (m : ℕ) (f h : List ℕ) → check-two m f h ≡ (check-on
 unfolding check-one check-two
 two-after-one m f h = sym (then-assoc (check-modulus m) (check-polynomial First m f) (check-polynomial Second m h))
 
-neither : (s t : Bool) → (s || t) ≡ false → (s ≡ false) × (t ≡ false)
+-- two tests of which neither holds
+pub neither : (s t : Bool) → (s || t) ≡ false → (s ≡ false) × (t ≡ false)
 neither true t h = (h, cc)
 neither false t h = (refl, h)
 

@@ -8,7 +8,7 @@
 --   filled-used, filled-rising, filled-composes         what the steps of the reader ask of a filled area
 --   read-short, read-refused, read-rejected, read-taken each return of the reader
 use mathlib.Core.Path.{_≡_, refl, sym, ap, ap₂, _∙_}
-use mathlib.Core.Bool.{Bool, true, false, _||_}
+use mathlib.Core.Bool.{Bool, true, false}
 use mathlib.Core.List.{List, _++_}
 use Prim.Native.Nat.{ℕ, _≤_, _<_}
 use borrow.Author.Tests.{ltb-false, le-ltb}
@@ -21,6 +21,7 @@ use Rattle.refusal.specs.declared.Outcome.{Outcome}
 use Rattle.refusal.specs.declared.Outcome.the-variants.{Answered}
 use Rattle.refusal.proofs.Outcomes.{answered, then-refused, then-both, then-assoc, stopped, refused-by, passed-on, refuse-answered}
 use Rattle.polynomial.specs.Moduli.{modulus, check-modulus}
+use Rattle.polynomial.proofs.Acceptance.{neither}
 use Rattle.area.specs.Area.{most-parts, area-words, place, cleared}
 use Rattle.record.specs.Record.{word}
 use Rattle.sheet.specs.Sheet.{sheet-bytes, record-at, used, sheet-of, held, area-of, parts-in}
@@ -31,10 +32,6 @@ use Rattle.sheet.specs.Steps.{Taken, Used, Rising, Composes}
 use Rattle.sheet.specs.declared.Contents.{Contents}
 use Rattle.sheet.proofs.Checking.{parts-ext, product-ext}
 use Rattle.sheet.proofs.Taking.{place-taken, used-same, records-rising, records-parted, sheet-modulus, rising-ext, parted-ext}
-
-neither : (s t : Bool) → (s || t) ≡ false → (s ≡ false) × (t ≡ false)
-neither true t h = (h, cc)
-neither false t h = (refl, h)
 
 -- past No. 11 there is room
 pub room : (n k : ℕ) → check-room n k ≡ Answered → (sheet-bytes ≤ n) × (area-words ≤ k)
@@ -105,10 +102,10 @@ module _ (b xs : List ℕ) {zs : List ℕ} (z-is : zs ≡ area-of b ++ drop area
 
   module _ (records : check-records b ≡ Answered) where
     -- has the used places of the sheet
-    pub filled-used : Used b zs
+    filled-used : Used b zs
     filled-used = record { is = λ i l. ap used (sym (filled i l)) ∙ used-same b records i l }
 
-    pub filled-rising : Rising (place zs)
+    filled-rising : Rising (place zs)
     filled-rising = rising-ext filled (records-rising b records)
 
   filled-product : check-product (place zs) ≡ check-product (held b)

@@ -62,7 +62,7 @@ module _ (c : ℕ → Outcome) where
   each-all zero h = refl
   each-all (suc n) h = simp (each-all n (λ i l. h i (omega arith)), h n (omega arith))
 
-pub each-ext : (n : ℕ) (c d : ℕ → Outcome) → ((i : ℕ) → i < n → c i ≡ d i) → each n c ≡ each n d
+each-ext : (n : ℕ) (c d : ℕ → Outcome) → ((i : ℕ) → i < n → c i ≡ d i) → each n c ≡ each n d
 unfolding each
 each-ext zero c d e = refl
 each-ext (suc n) c d e = ap₂ _then_ (each-ext n c d (λ i l. e i (omega arith))) (e n (omega arith))

@@ -54,7 +54,7 @@ module _ (g : ℕ → List ℕ) where
   parts-take n e = simp e
 
   -- the degrees of the used ones of the first n, multiplied
-  abbrev pub product-of : ℕ → ℕ
+  abbrev product-of : ℕ → ℕ
   product-of n = product (degrees (parts-in g n))
 
   product-skip : (n : ℕ) → used (g n) ≡ false → product-of (suc n) ≡ product-of n

@@ -69,7 +69,7 @@ accepted-part : {m : ℕ} {p : List ℕ} → Accepted m p → Part m p
 accepted-part a = record { reduced = a .reduced; monic = a .monic; two = a .two }
 
 -- what is accepted is used
-pub accepted-used : {m : ℕ} {p : List ℕ} → Accepted m p → used p ≡ true
+accepted-used : {m : ℕ} {p : List ℕ} → Accepted m p → used p ≡ true
 accepted-used a = ap not (part-fills (accepted-above a) (accepted-part a) .some)
 
 -- an outcome that refuses is no answer

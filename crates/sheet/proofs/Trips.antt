@@ -49,10 +49,10 @@ first-word b =
     rw (N.zero-mul record-bytes, getD-take record-bytes b 0 0 (omega arith), getD-take record-bytes b 1 0 (omega arith), getD-take record-bytes b 2 0 (omega arith), getD-take record-bytes b 3 0 (omega arith)) refl
 
 -- what a part becomes
-pub record Recorded (w : ℕ) (p r : List ℕ) : Type 0 where
-  pub same-use : used r ≡ used p
-  pub same-part : coefficients r ≡ p
-  pub word-is : used p ≡ true → word r 0 ≡ w
+record Recorded (w : ℕ) (p r : List ℕ) : Type 0 where
+  same-use : used r ≡ used p
+  same-part : coefficients r ≡ p
+  word-is : used p ≡ true → word r 0 ≡ w
 
 -- a part, recorded
 part-recorded : {w : ℕ} → w < 2 ^ 32 → (p : List ℕ) → length p ≡ terms → (used p ≡ true → Accepted (modulus w) p) → Recorded w p (recorded w p)

@@ -61,7 +61,7 @@ byte-piece : (b : List ℕ) (i c : ℕ) → c < 4 → getD b (4 * i + c) 0 ≡ g
 byte-piece b i c l = ap (λ (k : ℕ). getD b (k + c) 0) (N.mul-comm 4 i) ∙ sym (getD-take 4 (drop (i * 4) b) c 0 l ∙ getD-drop (i * 4) b c 0)
 
 -- a word is that of its own four bytes
-pub word-piece : (b : List ℕ) (i : ℕ) → word b i ≡ word (take 4 (drop (i * 4) b)) 0
+word-piece : (b : List ℕ) (i : ℕ) → word b i ≡ word (take 4 (drop (i * 4) b)) 0
 unfolding word
 word-piece b i =
     let e : getD b (4 * i) 0 ≡ getD b (4 * i + 0) 0 = ap (λ (k : ℕ). getD b k 0) (sym (N.add-zero (4 * i))) in
@@ -89,7 +89,7 @@ pub four : (w : ℕ) (p : List ℕ) (j : ℕ) → length (words w p j) ≡ 4
 unfolding bytes
 four w p j = refl
 
-pub record-long : (w : ℕ) (p : List ℕ) → length (record-of w p) ≡ record-bytes
+record-long : (w : ℕ) (p : List ℕ) → length (record-of w p) ≡ record-bytes
 unfolding record-of record-bytes
 record-long w p = joined-length (words w p) 4 (four w p) (terms + 1) ∙ N.mul-comm (terms + 1) 4
 
