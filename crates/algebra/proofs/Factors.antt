@@ -3,8 +3,9 @@
 --   coprime-invertible, invertible-coprime     the two directions
 --   coprime-greatest, greatest-coprime         no common factor: the greatest common factor is 1
 --   invertible-one, -mul, -pow, -left          inverses of 1, of products, of powers, and of a factor
+--   odd-coprime, coprime-odd                   no common factor with a power of 2: to be odd
 use mathlib.Core.Path.{_≡_, refl, sym, ap, ap₂, subst, _∙_}
-use Prim.Native.Nat.{ℕ, zero, suc, _*_, _^_, _%_, _/_, _∣_, _≤_, _<_}
+use Prim.Native.Nat.{ℕ, zero, suc, _+_, _*_, _^_, _%_, _/_, _∣_, _≤_, _<_}
 use native.Mathlib.Nat as N
 use native.Mathlib.Omega.{arith}
 use Rattle.algebra.specs.Number.{GreatestFactor, Coprime, Invertible}
@@ -108,3 +109,17 @@ coprime-greatest {a} {m} c = record { left = N.one-dvd a; right = N.one-dvd m; m
 
 pub greatest-coprime : {a m : ℕ} → GreatestFactor a m 1 → Coprime a m
 greatest-coprime g = record { only-one = λ d p q. N.eq-one-of-dvd-one (g .most d p q) }
+
+-- 2 has the inverse (a + 1) / 2 modulo an odd a, and so have its powers
+pub odd-coprime : (k : ℕ) {a : ℕ} → a % 2 ≡ 1 → Coprime a (2 ^ k)
+odd-coprime k {a} odd = let c = invertible-coprime a (omega arith) (invertible-pow two k) in record { only-one = λ d p q. c .only-one d q p }
+  where
+    double : (a + 1) / 2 * 2 ≡ 1 + a
+    double = omega arith
+
+    two : Invertible a 2
+    two = record { inverse = (a + 1) / 2; unit = ap (λ (x : ℕ). x % a) double ∙ N.add-mod-right 1 a }
+
+-- an even a shares 2 with it
+pub coprime-odd : (k : ℕ) {a : ℕ} → Coprime a (2 ^ suc k) → a % 2 ≡ 1
+coprime-odd k {a} c = omega (arith, N.emod-pos-of-not-dvd 2 {b = a} (λ d. omega (arith, c .only-one 2 d (rw (N.pow-succ' 2 k) (N.dvd-mul-right 2 (2 ^ k))))))

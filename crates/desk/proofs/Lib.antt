@@ -2,5 +2,6 @@ pub mod Answers
 pub mod SplitChanged
 pub mod ChainChanged
 pub mod Demands
+pub mod MachineWords
 pub mod Padded
 pub mod Worked

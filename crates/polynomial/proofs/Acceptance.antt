@@ -1,25 +1,28 @@
 -- What the checks let pass.
 --
 --   coefficients-first          No. 2 comes before 3 and 4
+--   coefficients-words          and at the modulus 2^32 it cannot occur
 --   two-after-one               the checks of two polynomials are those of the first, then 2, 3, 4 for the second
---   neither                     two tests of which neither holds
 --   accepted-polynomial, polynomial-accepted     what passes 2, 3, 4, whichever it is called, is accepted, and what is accepted passes
 --   accepted-one, one-accepted  what passes the checks of one polynomial is accepted, and what is accepted passes them
 --   accepted-two, two-accepted  the same for two
 --   degrees-multiply, above-limit, within-limit     the composed degree, and No. 10
 --   accepted-pair, pair-accepted     the checks of a pair that is composed
+--   neither, spared             two tests of which neither holds, and one that another spares
+--   taken-modulus               what passes No. 1: 2^32, or from the smallest to the largest
 --   accepted-modulus            a modulus that passes No. 1 is one that the leaves take
 --   accepted-above              so the modulus of an accepted polynomial is above 1
 --   accepted-as                 an accepted polynomial as a leaf asks for it
 --   accepted-changed            a changed polynomial is accepted as it was, and has its degree
 --   degree-fits                 an accepted polynomial is within the desk's limit
 use mathlib.Core.Path.{_≡_, refl, sym, _∙_}
-use mathlib.Core.Bool.{Bool, true, false, _||_}
+use mathlib.Core.Bool.{Bool, true, false, not, _&&_, _||_}
+use mathlib.Core.Logic.{_⊎_, inl, inr, ⊎-elim}
 use mathlib.Core.List.{List}
 use Prim.Native.Nat.{ℕ, _*_, _≤_, _<_}
 use native.Mathlib.Nat.{mod-eq-of-lt, mul-le-mul}
 use native.Mathlib.Omega.{arith}
-use lib.Dec.{ltb}
+use lib.Dec.{ltb, eqb}
 use lib.ListN.{length}
 use borrow.Author.Tests.{ltb-false, eqb-true, not-false, lt-ltb, le-ltb, eq-eqb}
 use Rattle.algebra.specs.Number.{Coprime, Modulus}
@@ -35,7 +38,7 @@ use Rattle.refusal.specs.declared.Reason.the-variants.{Limit}
 use Rattle.refusal.specs.declared.Outcome.{Outcome}
 use Rattle.refusal.specs.declared.Outcome.the-variants.{Answered}
 use Rattle.refusal.proofs.Outcomes.{then-refused, then-both, then-assoc, refuse-answered}
-use Rattle.polynomial.specs.Moduli.{smallest, largest, check-modulus}
+use Rattle.polynomial.specs.Moduli.{words, smallest, largest, check-modulus}
 use Rattle.polynomial.specs.Checks.{offending, check-coefficients, check-degree, check-leading, check-polynomial, check-one, check-two, check-pair, Accepted}
 use Rattle.polynomial.proofs.Lowest.{offending-none, none-offending}
 use Rattle.algebra.proofs.Highest.{degree-below, degree-above}
@@ -44,6 +47,13 @@ use Rattle.algebra.proofs.Highest.{degree-below, degree-above}
 pub coefficients-first : (c : Concerns) (m : ℕ) (f : List ℕ) → is-refused (check-coefficients c m f) ≡ true → check-polynomial c m f ≡ check-coefficients c m f
 unfolding check-polynomial
 coefficients-first c m f h = then-refused (check-degree c f then check-leading c f) h
+
+-- at the modulus 2^32 no machine word is m or more
+pub coefficients-words : (c : Concerns) (f : List ℕ) → ((i : ℕ) → coef f i < words) → check-coefficients c words f ≡ Answered
+unfolding check-coefficients
+coefficients-words c f small =
+    let none : offending words f ≡ length f = none-offending words f (record { below = λ i l. small i }) in
+    simp (le-ltb (offending words f) (length f) (omega arith))
 
 -- the checks of two polynomials are those of the first, then 2, 3, 4 for the second
 pub two-after-one : (m : ℕ) (f h : List ℕ) → check-two m f h ≡ (check-one m f then check-polynomial Second m h)
@@ -55,14 +65,21 @@ pub neither : (s t : Bool) → (s || t) ≡ false → (s ≡ false) × (t ≡ fa
 neither true t h = (h, cc)
 neither false t h = (refl, h)
 
+-- a test that another one spares
+spared : (s t : Bool) → (not s && t) ≡ false → (s ≡ true) ⊎ (t ≡ false)
+spared true t h = inl refl
+spared false t h = inr h
+
+-- what passes No. 1
+taken-modulus : (m : ℕ) → check-modulus m ≡ Answered → (m ≡ words) ⊎ ((smallest ≤ m) × (m ≤ largest))
+unfolding check-modulus
+taken-modulus m h = ⊎-elim (λ e. inl (eqb-true m words e)) (λ e. let (l, k) = neither (ltb m smallest) (ltb largest m) e in inr (ltb-false _ _ l, ltb-false _ _ k))
+    (spared (eqb m words) (ltb m smallest || ltb largest m) (refuse-answered _ _ _ h))
+
 -- a modulus that passes No. 1 is one that the leaves take
 pub accepted-modulus : {m : ℕ} → check-modulus m ≡ Answered → Modulus m
-unfolding check-modulus smallest largest
-accepted-modulus {m} h =
-    let (low, high) = neither (ltb m smallest) (ltb largest m) (refuse-answered _ _ _ h) in
-    let l : smallest ≤ m = ltb-false _ _ low in
-    let k : m ≤ largest = ltb-false _ _ high in
-    record { above-one = omega arith; fits = omega arith }
+unfolding words smallest largest
+accepted-modulus {m} h = ⊎-elim (λ e. record { above-one = omega arith; fits = omega arith }) (λ e. record { above-one = omega arith; fits = omega arith }) (taken-modulus m h)
 
 -- so the modulus of an accepted polynomial is above 1
 pub accepted-above : {m : ℕ} {f : List ℕ} → Accepted m f → 1 < m

@@ -1,3 +1,4 @@
 pub mod Lowest
+pub mod Moduli
 pub mod Acceptance
 pub mod Filling

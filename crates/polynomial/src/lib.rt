@@ -8,6 +8,7 @@ ghost use Rattle.polynomial.specs.Answers.{nothing as nothing-of, no-par
 use refusal::Concerns;
 use refusal::Outcome;
 use refusal::Reason;
+use residue::WORDS;
 
 // The highest degree that the desk takes.
 pub const LIMIT: usize = 126;
@@ -15,7 +16,7 @@ pub const LIMIT: usize = 126;
 // How many coefficients a polynomial has.
 pub const TERMS: usize = LIMIT + 1;
 
-// The moduli that the desk takes.
+// The moduli that the desk takes, beside 2^32.
 const SMALLEST: u64 = 2;
 
 const LARGEST: u64 = 2147483647;
@@ -78,10 +79,13 @@ pub fn degree(f: &[u32]) -> usize
     0
 }
 
-// The number that a modulus word means. The operations take the word, and all below them this number.
+// The number that a modulus word means: 0 means 2^32. The operations take the word, and all below them this number.
 pub fn modulus(word: u32) -> u64
     ensures { λ r. ⌜ r ≡ modulus-of word ⌝ }
 {
+    if word == 0 {
+        return WORDS;
+    }
     word as u64
 }
 
@@ -103,6 +107,9 @@ fn offending(m: u64, f: &[u32]) -> usize
 pub fn check_modulus(m: u64) -> Outcome
     ensures { λ r. ⌜ r ≡ check-modulus m ⌝ }
 {
+    if m == WORDS {
+        return Outcome::Answered;
+    }
     if m < SMALLEST {
         return refusal::refused(Concerns::Neither, Reason::Modulus);
     }

@@ -6,11 +6,11 @@
 --   inner-split                   the sum of n + j terms is that of the first n and that of the last j
 --   inner-extensional             lists that agree at the sum's indices have the same sum
 --   strided-..                    the same of `strided`
---   stride-inside, stride-next    the place that a loop over i has reached
+--   stride-start, stride-inside, stride-next     the place that a loop over i has reached
 use mathlib.Core.Path.{_≡_, sym, _∙_, ap, ap₂, subst}
 use mathlib.Core.List.{List}
 use Prim.Native.Nat.{ℕ, suc, _+_, _-_, _*_, _≤_, _<_}
-use native.Mathlib.Nat.{add-assoc, sub-self}
+use native.Mathlib.Nat.{add-assoc, sub-self, zero-mul, add-zero}
 use native.Mathlib.Omega.{arith}
 use Rattle.algebra.specs.Number.{sum}
 use Rattle.algebra.specs.Polynomial.{coef}
@@ -72,6 +72,9 @@ pub strided-extensional : (a a′ b b′ : List ℕ) (lo at step n : ℕ) → ((
     → ((i : ℕ) → i < n → coef b (at + i * step) ≡ coef b′ (at + i * step)) → strided a b lo at step n ≡ strided a′ b′ lo at step n
 unfolding strided
 strided-extensional a a′ b b′ lo at step n e f = sum-ext n _ _ (λ i l. ap₂ _*_ (e i l) (f i l))
+
+pub stride-start : (lo at step : ℕ) → at ≡ at + (lo - lo) * step
+stride-start lo at step = sym (ap (λ (n : ℕ). at + n * step) (sub-self lo) ∙ ap (λ (n : ℕ). at + n) (zero-mul step) ∙ add-zero at)
 
 pub stride-inside : {la lb lo hi at step : ℕ} (i : ℕ) {j : ℕ} → Strides la lb lo hi at step → i < hi - lo → j ≡ at + i * step → j < lb
 stride-inside {lb = lb} i s h e = subst (λ (x : ℕ). x < lb) (sym e) (s .inside i h)

@@ -4,17 +4,47 @@
 //   invert                           the inverse, or the greatest common factor that is in the way
 //   inner_product                    a[lo]*b[k-lo] + .. + a[hi-1]*b[k-hi+1]: exact, and reduced once at the end
 //   strided_product                  a[lo]*b[at] + a[lo+1]*b[at+step] + ..: the same of numbers that lie apart
+//
+// At the modulus 2^32 sums, differences and products run round in a machine word (add_words and the like), so that there is
+// nothing to reduce.
 ghost use mathlib.Core.Path.{_≡_};
 ghost use Prim.Native.Nat.{_+_, _-_, _*_, _%_, _^_, _≤_, _<_};
 ghost use lib.ListN.{length};
 ghost use Rattle.algebra.specs.Number.{Modulus};
 ghost use Rattle.residue.specs.Residue.{InverseIs, inner, Within, strided, Strides};
 
+// How many machine words there are: the modulus at which they run round.
+pub const WORDS: u64 = 0x1_0000_0000;
+
+// a + b, round at 2^32.
+fn add_words(a: u32, b: u32) -> u32
+    ensures { λ r. ⌜ r ≡ (a + b) % 2 ^ 32 ⌝ }
+{
+    std::num::wrapping_add_u32(a, b)
+}
+
+// a - b, round at 2^32.
+fn subtract_words(a: u32, b: u32) -> u32
+    ensures { λ r. ⌜ r ≡ (a + (2 ^ 32 - b)) % 2 ^ 32 ⌝ }
+{
+    std::num::wrapping_sub_u32(a, b)
+}
+
+// a * b, round at 2^32.
+fn multiply_words(a: u32, b: u32) -> u32
+    ensures { λ r. ⌜ r ≡ a * b % 2 ^ 32 ⌝ }
+{
+    (whole(a, b) % WORDS) as u32
+}
+
 // a - b modulo m.
 pub fn subtract(a: u32, b: u32, m: u64) -> u32
     requires { ⌜ Modulus m × (a < m) × (b < m) ⌝ }
     ensures { λ r. ⌜ r ≡ (a + (m - b)) % m ⌝ }
 {
+    if m == WORDS {
+        return subtract_words(a, b);
+    }
     if b <= a {
         a - b
     } else {
@@ -27,6 +57,9 @@ pub fn multiply(a: u32, b: u32, m: u64) -> u32
     requires { ⌜ Modulus m ⌝ }
     ensures { λ r. ⌜ r ≡ a * b % m ⌝ }
 {
+    if m == WORDS {
+        return multiply_words(a, b);
+    }
     (a as u64 * b as u64 % m) as u32
 }
 
@@ -35,6 +68,9 @@ pub fn two_products(a: u32, x: u32, b: u32, y: u32, m: u64) -> u32
     requires { ⌜ Modulus m ⌝ }
     ensures { λ r. ⌜ r ≡ (a * x + b * y) % m ⌝ }
 {
+    if m == WORDS {
+        return add_words(multiply_words(a, x), multiply_words(b, y));
+    }
     let w = Wide {
         high: 0,
         low: whole(a, x),
@@ -141,16 +177,45 @@ fn whole(x: u32, y: u32) -> u64
     x as u64 * y as u64
 }
 
+// The sum of a[i] * b[k - i] for i from lo to hi - 1, round at 2^32.
+fn inner_words(a: &[u32], b: &[u32], k: usize, lo: usize, hi: usize) -> u32
+    requires { ⌜ Within (length (now a)) (length (now b)) k lo hi ⌝ }
+    ensures { λ r. ⌜ r ≡ inner (now (a .entry)) (now (b .entry)) k lo (hi - lo) % 2 ^ 32 ⌝ }
+{
+    let mut w = 0;
+    for i in lo..hi {
+        w = add_words(w, multiply_words(a[i], b[k - i]));
+    }
+    w
+}
+
 // The sum of a[i] * b[k - i] for i from lo to hi - 1, modulo m. The sum is exact: nothing is divided inside the loop.
 pub fn inner_product(a: &[u32], b: &[u32], k: usize, lo: usize, hi: usize, m: u64) -> u32
     requires { ⌜ Modulus m × Within (length (now a)) (length (now b)) k lo hi ⌝ }
     ensures { λ r. ⌜ r ≡ inner (now (a .entry)) (now (b .entry)) k lo (hi - lo) % m ⌝ }
 {
+    if m == WORDS {
+        return inner_words(a, b, k, lo, hi);
+    }
     let mut w = Wide { high: 0, low: 0 };
     for i in lo..hi {
         w = added(w, whole(a[i], b[k - i]));
     }
     reduced(w, m)
+}
+
+// The sum of a[i] * b[at + (i - lo) * step] for i from lo to hi - 1, round at 2^32.
+fn strided_words(a: &[u32], b: &[u32], lo: usize, hi: usize, at: usize, step: usize) -> u32
+    requires { ⌜ Strides (length (now a)) (length (now b)) lo hi at step ⌝ }
+    ensures { λ r. ⌜ r ≡ strided (now (a .entry)) (now (b .entry)) lo at step (hi - lo) % 2 ^ 32 ⌝ }
+{
+    let mut w = 0;
+    let mut j = at;
+    for i in lo..hi {
+        w = add_words(w, multiply_words(a[i], b[j]));
+        j += step;
+    }
+    w
 }
 
 // The sum of a[i] * b[at + (i - lo) * step] for i from lo to hi - 1, modulo m: a row against a column.
@@ -166,6 +231,9 @@ pub fn strided_product(
     requires { ⌜ Modulus m × Strides (length (now a)) (length (now b)) lo hi at step ⌝ }
     ensures { λ r. ⌜ r ≡ strided (now (a .entry)) (now (b .entry)) lo at step (hi - lo) % m ⌝ }
 {
+    if m == WORDS {
+        return strided_words(a, b, lo, hi, at, step);
+    }
     let mut w = Wide { high: 0, low: 0 };
     let mut j = at;
     for i in lo..hi {

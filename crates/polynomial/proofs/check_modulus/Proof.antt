@@ -1,23 +1,27 @@
-use mathlib.Core.Path.{_∙_}
+use mathlib.Core.Path.{sym, _∙_}
 use native.Mathlib.Omega.{arith}
-use borrow.Author.Tests.{lt-ltb, le-ltb}
-use Rattle.polynomial.specs.Moduli.{smallest, largest, check-modulus}
 use borrow.Author.Needs.{needs}
+use Rattle.polynomial.specs.Moduli.{words, smallest, largest}
+use Rattle.polynomial.proofs.Moduli.{words-taken, within-taken, below-refused, above-refused}
 use Rattle.polynomial.proofs.check_modulus.Statement.{statement}
 use Rattle.polynomial.proofs.check_modulus.Tie as tie
 
 returns : tie.Need-returns
-unfolding smallest check-modulus
-returns c = c .refused .ensures ∙ simp (lt-ltb (c .before .before .args .m) smallest (omega arith))
+unfolding words
+returns c = rw (c .if1 .taken) (sym words-taken)
 
 returns-2 : tie.Need-returns-2
-unfolding smallest largest check-modulus
-returns-2 c = c .refused2 .ensures ∙ simp (le-ltb (c .before .before .before .args .m) smallest (omega arith), lt-ltb largest (c .before .before .before .args .m) (omega arith))
+unfolding smallest
+returns-2 c = c .refused .ensures ∙ sym (below-refused _ (omega arith))
 
 returns-3 : tie.Need-returns-3
-unfolding smallest largest check-modulus
-returns-3 c = simp (le-ltb (c .before .before .args .m) smallest (omega arith), le-ltb largest (c .before .before .args .m) (omega arith))
+unfolding words largest
+returns-3 c = c .refused2 .ensures ∙ sym (above-refused _ (omega arith) (c .before .before .before .if1 .left))
+
+returns-4 : tie.Need-returns-4
+unfolding smallest largest
+returns-4 c = sym (within-taken _ (omega arith) (omega arith))
 
 pub check-modulus-spec : {M : Type 1} → statement M
 check-modulus-spec =
-    tie.close (tie.spec (λ c κs. search needs) returns (λ c κs. search needs) returns-2 returns-3)
+    tie.close (tie.spec returns (λ c κs. search needs) returns-2 (λ c κs. search needs) returns-3 returns-4)

@@ -10,5 +10,8 @@ mul-result c = record { fits = product-fits (omega arith) (omega arith) }
 cast-result : tie.Need-cast-result
 cast-result c = record { fits = under _ (omega arith) (omega arith) }
 
+returns : tie.Need-returns
+returns c = rw (c .before .if1 .taken) (c .multiply-words .ensures)
+
 pub multiply-spec : {M : Type 1} → statement M
-multiply-spec = tie.close (tie.spec mul-result (λ c. search needs) cast-result (λ c. search needs))
+multiply-spec = tie.close (tie.spec (λ c κs. search needs) returns mul-result (λ c. search needs) cast-result (λ c. search needs))

@@ -1,10 +1,9 @@
 use mathlib.Core.Path.{_≡_, sym, _∙_, ap}
 use Prim.Native.Nat.{ℕ, _+_, _-_, _*_, _^_, _≤_, _<_}
-use native.Mathlib.Nat.{zero-mul, add-zero, sub-self}
 use native.Mathlib.Omega.{arith}
 use borrow.Author.Needs.{needs}
 use Rattle.residue.specs.Residue.{strided}
-use Rattle.residue.proofs.Inner.{strided-start, strided-next, stride-inside, stride-next}
+use Rattle.residue.proofs.Inner.{strided-start, strided-next, stride-start, stride-inside, stride-next}
 use Rattle.residue.proofs.Words.{Widened, widened-none, widened-more, widened-room, widened-mod}
 use Rattle.residue.proofs.strided_product.Statement.{statement}
 use Rattle.residue.proofs.strided_product.Tie as tie
@@ -19,13 +18,13 @@ loop-holds : tie.Need-loop-holds Inv-loop μ-loop
 loop-holds c = (
   omega arith,
   omega arith,
-  sym (ap (λ (n : ℕ). c .before .before .args .at + n * c .before .before .args .step) (sub-self (c .before .before .args .lo)) ∙ ap (λ (n : ℕ). c .before .before .args .at + n) (zero-mul (c .before .before .args .step)) ∙ add-zero _),
+  stride-start _ _ _,
   omega arith,
   widened-none (strided-start _ _ _ _ _),
 )
 
 shared-slice-read-whole-2 : tie.Need-shared-slice-read-whole-2 Inv-loop μ-loop
-shared-slice-read-whole-2 c = stride-inside _ (c .before .before .before .before .before .before .pre .1) (omega arith) (c .before .before .before .loop .inv .2)
+shared-slice-read-whole-2 c = stride-inside _ (c .before .before .before .before .before .before .before .pre .1) (omega arith) (c .before .before .before .loop .inv .2)
 
 added-requires : tie.Need-added-requires Inv-loop μ-loop
 added-requires c κs = widened-room (omega arith) (c .before .before .before .before .loop .inv .4)
@@ -33,20 +32,23 @@ added-requires c κs = widened-room (omega arith) (c .before .before .before .be
 loop-again : tie.Need-loop-again Inv-loop μ-loop
 loop-again c =
     let l = c .before .before .before .before .before .loop in
-    let a = c .before .before .before .before .before .before .before .before .args in (
+    let a = c .before .before .before .before .before .before .before .before .before .args in (
       omega arith,
       omega arith,
       stride-next _ _ _ (l .inv .2) (omega arith),
-      omega (arith, stride-inside (l .i - a .lo) (c .before .before .before .before .before .before .before .before .pre .1) (omega arith) (l .inv .2)),
+      omega (arith, stride-inside (l .i - a .lo) (c .before .before .before .before .before .before .before .before .before .pre .1) (omega arith) (l .inv .2)),
       widened-more _ (omega arith) (strided-next _ _ _ _ _ _ _ (omega arith) (l .inv .2) (c .before .whole .ensures)) (c .added .ensures) (l .inv .4),
     )
 
 reduced-requires : tie.Need-reduced-requires Inv-loop μ-loop
-reduced-requires c κs = (c .before .before .before .before .pre .0, widened-room (omega arith) (c .before .loop .inv .4))
+reduced-requires c κs = (c .before .before .before .before .before .pre .0, widened-room (omega arith) (c .before .loop .inv .4))
 
 returns : tie.Need-returns Inv-loop μ-loop
-returns c =
-    let e : c .before .before .loop .i ≡ c .before .before .before .before .before .args .hi = omega arith in
+returns c = rw (c .before .if1 .taken) (c .strided-words .ensures)
+
+returns-2 : tie.Need-returns-2 Inv-loop μ-loop
+returns-2 c =
+    let e : c .before .before .loop .i ≡ c .before .before .before .before .before .before .args .hi = omega arith in
     widened-mod _ (c .reduced .ensures) (rw e at (c .before .before .loop .inv .4))
 
 pub strided-product-spec : {M : Type 1} → statement M
@@ -55,6 +57,8 @@ strided-product-spec =
     (tie.spec
     Inv-loop
     μ-loop
+    (λ c κs. search needs)
+    returns
     loop-holds
     (λ c. omega arith)
     (λ c. omega arith)
@@ -67,4 +71,4 @@ strided-product-spec =
     (λ c. omega arith)
     loop-again
     reduced-requires
-    returns)
+    returns-2)
