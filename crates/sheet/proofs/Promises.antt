@@ -2,6 +2,7 @@
 --
 --   write-determined, read-determined     two answers to one call are equal, and so is every byte or word that they wrote
 --   read-composes           the reader's polynomial is the composition of its parts modulo m, reduced; they are parts, in the first places
+--   written-used            a place of the written sheet is used exactly if its part is: the record of a used part is never zero bytes
 --   write-read              written and read: the same modulus and the same area, for every area that the writer accepts
 --   parts-written           any valid parts are accepted, whether or not they split further, whatever their constants
 --   parts-read              and read again they give the area, and what they compose to
@@ -49,7 +50,7 @@ use Rattle.sheet.proofs.Words.{Bytes, recorded-long}
 use Rattle.sheet.proofs.Composing.{composed-same}
 use Rattle.sheet.proofs.Taking.{area-long, place-taken, used-same, records-parted, sheet-modulus, parted-ext}
 use Rattle.sheet.proofs.Answering.{room, roomy, sheet-passes, product-within}
-use Rattle.sheet.proofs.Trips.{FirstOnes, order-exact, written-sheet, written-held, written-modulus, taken-area, taken-written}
+use Rattle.sheet.proofs.Trips.{FirstOnes, order-exact, written-use, written-sheet, written-held, written-modulus, taken-area, taken-written}
 use Rattle.sheet.proofs.Laid.{Parts, laid-room, laid-passes, laid-composition, chain-parts}
 
 -- the answer and every byte of the sheet are determined
@@ -149,6 +150,14 @@ sheet-long w xs = joined-length (λ i. recorded w (place xs i)) record-bytes (λ
 area-again : {w : ℕ} → w < 2 ^ 32 → (xs rest : List ℕ) → area-words ≤ length xs → check-area w xs ≡ Answered → area-of (sheet-of w xs ++ rest) ≡ take area-words xs
 unfolding area-of area-words
 area-again {w} small xs rest k s = joined-ext most-parts (held (sheet-of w xs ++ rest)) (place xs) (written-held small xs rest k s) ∙ pieces terms most-parts xs
+
+-- a place of the sheet is used exactly if the part is: the record of a used part is never zero bytes, not even where its modulus word is 0
+pub written-used : {w : ℕ} {xs b c : List ℕ} {o : Outcome} → w < 2 ^ 32 → WritesSheet w xs b c o → o ≡ Answered → (i : ℕ) → i < most-parts → used (record-at c i) ≡ used (place xs i)
+unfolding check-writer
+written-used small (of.refused e a q) z i l = absurd (never q z)
+written-used {w} {xs} {b} small (of.made e a q) z i l =
+    let (g, s) = then-both (check-room (length b) (length xs)) (check-area w xs) e in
+    ap (λ (c : List ℕ). used (record-at c i)) a ∙ written-use small xs (drop sheet-bytes b) (room (length b) (length xs) g .1) s i l
 
 -- written and read: from the area xs into the area ys, now zs
 pub record Again (w : ℕ) (xs ys zs : List ℕ) (x : Contents) : Type 0 where

@@ -2,7 +2,7 @@
 --
 --   Recorded w p r            r is what the part p becomes: used as it is, with its polynomial, and with the modulus word w
 --   written-sheet             the sheet of an area that the writer accepts passes the reader's checks
---   written-held, written-modulus     and holds the area's parts, and the modulus word
+--   written-use, written-held, written-modulus     and has the area's places in use, its parts, and the modulus word
 --   taken-area                the area of a sheet that the reader accepts passes the writer's checks
 --   taken-written             and its sheet has the same bytes
 --   FirstOnes u k             the used places are the first k, and k is not 0
@@ -92,6 +92,10 @@ module _ {w : ℕ} (small : w < 2 ^ 32) (xs rest : List ℕ) (room : area-words 
   at : (i : ℕ) → i < most-parts → Recorded w (place xs i) (record-at made i)
   at i l = subst (Recorded w (place xs i)) (sym (at-place i l)) (part-recorded small (place xs i) (place-long xs i l room) (used-accepted i l))
 
+  -- has the places in use that the area has
+  pub written-use : (i : ℕ) → i < most-parts → used (record-at made i) ≡ used (place xs i)
+  written-use i l = at i l .same-use
+
   -- holds its parts
   pub written-held : (i : ℕ) → i < most-parts → held made i ≡ place xs i
   written-held i l = at i l .same-part
@@ -104,12 +108,12 @@ module _ {w : ℕ} (small : w < 2 ^ 32) (xs rest : List ℕ) (room : area-words 
   unfolding check-placed check-words
   record-fine i l true e =
       let a = used-accepted i l e in
-      simp (at i l .same-use ∙ e, at i l .word-is e, at i l .same-part, a .modulus, polynomial-accepted (Place i) a)
-  record-fine i l false e = simp (at i l .same-use ∙ e)
+      simp (written-use i l ∙ e, at i l .word-is e, at i l .same-part, a .modulus, polynomial-accepted (Place i) a)
+  record-fine i l false e = simp (written-use i l ∙ e)
 
   same-fine : (i : ℕ) → i < most-parts → (t : Bool) → used (place xs i) ≡ t → refuse (used (record-at made i) && not (eqb (word (record-at made i) 0) (word made 0))) Neither Sheet ≡ Answered
-  same-fine i l true e = simp (at i l .same-use ∙ e, eq-eqb (word (record-at made i) 0) (word made 0) (at i l .word-is e ∙ sym written-modulus))
-  same-fine i l false e = simp (at i l .same-use ∙ e)
+  same-fine i l true e = simp (written-use i l ∙ e, eq-eqb (word (record-at made i) 0) (word made 0) (at i l .word-is e ∙ sym written-modulus))
+  same-fine i l false e = simp (written-use i l ∙ e)
 
   -- passes the reader's checks
   pub written-sheet : check-sheet made ≡ Answered
@@ -118,7 +122,7 @@ module _ {w : ℕ} (small : w < 2 ^ 32) (xs rest : List ℕ) (room : area-words 
       let (a, b, c, d) = area-passes w xs passes in
       simp (
         each-all (λ i. check-placed (record-at made i) i) most-parts (λ i l. record-fine i l (used (place xs i)) refl),
-        order-ext (λ i. used (record-at made i)) (λ i. used (place xs i)) (λ i l. at i l .same-use) ∙ b,
+        order-ext (λ i. used (record-at made i)) (λ i. used (place xs i)) written-use ∙ b,
         each-all (λ i. refuse (used (record-at made i) && not (eqb (word (record-at made i) 0) (word made 0))) Neither Sheet) most-parts (λ i l. same-fine i l (used (place xs i)) refl),
         product-ext (held made) (place xs) written-held ∙ d,
       )

@@ -1,0 +1,204 @@
+-- At the modulus 2^32 no operation answers with No. 2 (request No. 3).
+--
+--   Machine f      every coefficient is a machine word, as every u32 is
+--   NotTwo o       the outcome o is not No. 2
+--   no-two-compose, no-two-left-part, no-two-split, no-two-change-polynomial, no-two-change-pair, no-two-chain, no-two-record,
+--   no-two-write-sheet, no-two-read-sheet     so for each operation that checks a polynomial
+use mathlib.Core.Path.{_≡_, sym, ap, _∙_}
+use mathlib.Core.Bool.{Bool, true, false, not, cond, _&&_, _||_}
+use mathlib.Core.Logic.{by-cases}
+use mathlib.Core.List.{List}
+use Prim.Native.Nat.{ℕ, zero, suc, _+_, _*_, _<_}
+use native.Mathlib.Decide.{decLe}
+use native.Mathlib.Omega.{arith}
+use lib.Dec.{eqb, ltb}
+use lib.ListN.{length}
+use Rattle.algebra.specs.Polynomial.{coef, degree, limit, terms}
+use Rattle.algebra.specs.Chain.{degrees, product}
+use Rattle.algebra.proofs.Numbers.{table-below, table-above}
+use Rattle.refusal.specs.Refusal.{number, refusal, refuse, _then_}
+use Rattle.refusal.specs.declared.Concerns.{Concerns}
+use Rattle.refusal.specs.declared.Concerns.the-variants.{Neither, First, Second, Place}
+use Rattle.refusal.specs.declared.Reason.{Reason}
+use Rattle.refusal.specs.declared.Reason.the-variants as reason
+use Rattle.refusal.specs.declared.Outcome.{Outcome}
+use Rattle.refusal.specs.declared.Outcome.the-variants.{Answered, Refused}
+use Rattle.polynomial.specs.Moduli.{words, modulus}
+use Rattle.polynomial.specs.Checks.{check-degree, check-leading, check-polynomial, check-one, check-two, check-pair}
+use Rattle.polynomial.specs.Answers.{nothing, no-parts}
+use Rattle.polynomial.specs.declared.Answer.{Answer}
+use Rattle.polynomial.specs.declared.Parts.{Parts}
+use Rattle.polynomial.proofs.Moduli.{modulus-zero, words-taken}
+use Rattle.polynomial.proofs.Acceptance.{coefficients-words}
+use Rattle.pair.specs.Pairing.{fits, compose, beside, check-left, check-split, LeftPartOf, Splits}
+use Rattle.pair.specs.Pairing as pairing
+use Rattle.change.specs.declared.Change.{Change}
+use Rattle.change.specs.Changing.{ChangesPolynomial, ChangesPair}
+use Rattle.change.specs.Changing as changing
+use Rattle.area.specs.Area.{most-parts, area-words, place}
+use Rattle.chain.specs.declared.Chained.{Chained}
+use Rattle.chain.specs.Chaining.{ChainOf}
+use Rattle.chain.specs.Chaining as chaining
+use Rattle.record.specs.Record.{word, record-bytes, coefficients, check-record, checked}
+use Rattle.record.specs.declared.Checked.{Checked}
+use Rattle.record.proofs.Answers.{check-outcome}
+use Rattle.sheet.specs.Sheet.{sheet-bytes, record-at, used, held, parts-in}
+use Rattle.sheet.specs.Checks.{each, in-order, check-room, check-order, check-moduli, check-words, check-placed, check-records, check-part, check-parts, check-product, check-sheet, check-area, check-writer}
+use Rattle.sheet.specs.Answers.{unread, ReadsSheet, WritesSheet}
+use Rattle.sheet.specs.Answers as answers
+use Rattle.sheet.specs.declared.Contents.{Contents}
+use Rattle.sheet.proofs.Words.{Bytes, bytes-piece, word-small}
+use Rattle.desk.specs.Face.{told}
+
+-- every coefficient is a machine word
+pub record Machine (f : List ℕ) : Type 0 where
+  pub is : (i : ℕ) → coef f i < words
+
+-- No. 2 is not told
+pub record NotTwo (o : Outcome) : Type 0 where
+  pub is : told o .number ≡ 2 → ⊥
+
+not-as : {a b : Outcome} → a ≡ b → NotTwo b → NotTwo a
+not-as e n = rw e n
+
+not-answered : NotTwo Answered
+not-answered = record { is = λ e. omega arith }
+
+not-then : (a b : Outcome) → NotTwo a → NotTwo b → NotTwo (a then b)
+not-then Answered b m n = n
+not-then (Refused r) b m n = m
+
+not-refusal : (c : Concerns) (r : Reason) → (number r ≡ 2 → ⊥) → NotTwo (refusal c r)
+not-refusal c r n = record { is = n }
+
+not-refuse : (t : Bool) (c : Concerns) (r : Reason) → (number r ≡ 2 → ⊥) → NotTwo (refuse t c r)
+not-refuse true c r n = not-refusal c r n
+not-refuse false c r n = not-answered
+
+-- 3 and 4 are left
+not-polynomial : (c : Concerns) {f : List ℕ} → Machine f → NotTwo (check-polynomial c words f)
+unfolding check-polynomial check-degree check-leading
+not-polynomial c {f} m =
+    rw (coefficients-words c f (m .is))
+    (not-then (check-degree c f) (check-leading c f) (not-refuse (ltb (degree f) 2) c reason.Degree (λ e. omega arith)) (not-refuse (not (eqb (coef f (degree f)) 1)) c reason.Leading (λ e. omega arith)))
+
+not-check-one : {f : List ℕ} → Machine f → NotTwo (check-one words f)
+unfolding check-one
+not-check-one m = rw words-taken (not-polynomial First m)
+
+not-check-two : {f h : List ℕ} → Machine f → Machine h → NotTwo (check-two words f h)
+unfolding check-two
+not-check-two {f} {h} m n = rw words-taken (not-then (check-polynomial First words f) (check-polynomial Second words h) (not-polynomial First m) (not-polynomial Second n))
+
+not-check-pair : {g h : List ℕ} → Machine g → Machine h → NotTwo (check-pair words g h)
+unfolding check-pair
+not-check-pair {g} {h} m n = not-then (check-two words g h) _ (not-check-two m n) (not-refuse (ltb limit (degree g * degree h)) Neither reason.Limit (λ e. omega arith))
+
+-- the operations
+
+pub no-two-compose : {g h : List ℕ} {x : Answer} → Machine g → Machine h → x ≡ compose words g h → NotTwo (x .outcome)
+unfolding compose nothing
+no-two-compose {g} {h} m n e = not-as (ap (λ (x : Answer). x .outcome) e) (go (check-pair words g h) (not-check-pair m n))
+  where
+    go : (o : Outcome) → NotTwo o → NotTwo (beside o words g h .outcome)
+    go Answered k = k
+    go (Refused r) k = k
+
+pub no-two-left-part : {f h : List ℕ} {x : Answer} → Machine f → Machine h → LeftPartOf words f h x → NotTwo (x .outcome)
+unfolding check-left nothing
+no-two-left-part {f} {h} m n (pairing.refused e q) =
+    not-as (ap (λ (x : Answer). x .outcome) q ∙ sym e) (not-then (check-two words f h) _ (not-check-two m n) (not-refuse (not (fits (degree f) (degree h))) Neither reason.Fit (λ e. omega arith)))
+no-two-left-part m n (pairing.none e k q) = not-as (ap (λ (x : Answer). x .outcome) q) (not-refusal Neither reason.NoPair (λ e. omega arith))
+no-two-left-part m n (pairing.found e k q) = not-as (ap (λ (x : Answer). x .outcome) q) not-answered
+
+pub no-two-split : {f : List ℕ} {r : ℕ} {x : Parts} → Machine f → Splits words f r x → NotTwo (x .outcome)
+unfolding check-split no-parts
+no-two-split {f} {r} m (pairing.refused e q) =
+    not-as (ap (λ (x : Parts). x .outcome) q ∙ sym e) (not-then (check-one words f) _ (not-check-one m) (not-refuse (not (fits (degree f) r)) Neither reason.Fit (λ e. omega arith)))
+no-two-split m (pairing.shared e n q) = not-as (ap (λ (x : Parts). x .outcome) q) (not-refusal Neither reason.Factor (λ e. omega arith))
+no-two-split m (pairing.none e c n q) = not-as (ap (λ (x : Parts). x .outcome) q) (not-refusal Neither reason.NoPair (λ e. omega arith))
+no-two-split m (pairing.found e c k q) = not-as (ap (λ (x : Parts). x .outcome) q) not-answered
+
+pub no-two-change-polynomial : {f : List ℕ} {c : Change} {x : Answer} → Machine f → ChangesPolynomial words f c x → NotTwo (x .outcome)
+unfolding nothing
+no-two-change-polynomial m (changing.refused e q) = not-as (ap (λ (x : Answer). x .outcome) q ∙ sym e) (not-check-one m)
+no-two-change-polynomial m (changing.not-proper e n q) = not-as (ap (λ (x : Answer). x .outcome) q) (not-refusal Neither reason.Change (λ e. omega arith))
+no-two-change-polynomial m (changing.changed e p r k q) = not-as (ap (λ (x : Answer). x .outcome) q) not-answered
+
+pub no-two-change-pair : {g h : List ℕ} {c : Change} {x : Parts} → Machine g → Machine h → ChangesPair words g h c x → NotTwo (x .outcome)
+unfolding no-parts
+no-two-change-pair m n (changing.refused e q) = not-as (ap (λ (x : Parts). x .outcome) q ∙ sym e) (not-check-pair m n)
+no-two-change-pair m n (changing.not-proper e k q) = not-as (ap (λ (x : Parts). x .outcome) q) (not-refusal Neither reason.Change (λ e. omega arith))
+no-two-change-pair m n (changing.changed e p r s k q) = not-as (ap (λ (x : Parts). x .outcome) q) not-answered
+
+pub no-two-chain : {f xs ys : List ℕ} {x : Chained} → Machine f → ChainOf words f xs ys x → NotTwo (x .outcome)
+no-two-chain m (chaining.short l a q) = not-as (ap (λ (x : Chained). x .outcome) q) (not-refusal Neither reason.Area (λ e. omega arith))
+no-two-chain m (chaining.refused l e a q) = not-as (ap (λ (x : Chained). x .outcome) q ∙ sym e) (not-check-one m)
+no-two-chain m (chaining.shared l e n a q) = not-as (ap (λ (x : Chained). x .outcome) q) (not-refusal Neither reason.Factor (λ e. omega arith))
+no-two-chain m (chaining.chained l e c k a q) = not-as (ap (λ (x : Chained). x .outcome) q) not-answered
+
+-- the coefficients of a record are machine words
+coefficients-machine : {b : List ℕ} → Bytes b → Machine (coefficients b)
+unfolding words coefficients
+coefficients-machine {b} s = record { is = λ i. by-cases (decLe terms i) (λ l. rw (table-above terms (λ i. word b (i + 1)) i l) (omega arith)) (λ n. rw (table-below terms (λ i. word b (i + 1)) i (omega arith)) (word-small s (i + 1))) }
+
+pub no-two-record : {b : List ℕ} {x : Checked} → Bytes b → word b 0 ≡ 0 → x ≡ checked b → NotTwo (x .outcome)
+unfolding check-record
+no-two-record {b} s z e =
+    not-as (check-outcome b e)
+    (not-then _ (check-one (modulus (word b 0)) (coefficients b)) (not-refuse (ltb (length b) record-bytes) Neither reason.Short (λ e. omega arith)) (rw (z, modulus-zero) (not-check-one (coefficients-machine s))))
+
+not-each : (n : ℕ) (c : ℕ → Outcome) → ((i : ℕ) → i < n → NotTwo (c i)) → NotTwo (each n c)
+unfolding each
+not-each zero c h = not-answered
+not-each (suc n) c h = not-then (each n c) (c n) (not-each n c (λ i l. h i (omega arith))) (h n (omega arith))
+
+not-cond : (t : Bool) {o : Outcome} → NotTwo o → NotTwo (cond t o Answered)
+not-cond true n = n
+not-cond false n = not-answered
+
+not-room : (n k : ℕ) → NotTwo (check-room n k)
+unfolding check-room
+not-room n k = not-refuse (ltb n sheet-bytes || ltb k area-words) Neither reason.Area (λ e. omega arith)
+
+not-order : (u : ℕ → Bool) → NotTwo (check-order u)
+unfolding check-order
+not-order u = not-each most-parts _ (λ i l. not-refuse (not (in-order u i)) Neither reason.Sheet (λ e. omega arith))
+
+not-product : (g : ℕ → List ℕ) → NotTwo (check-product g)
+unfolding check-product
+not-product g = not-refuse (ltb limit (product (degrees (parts-in g most-parts)))) Neither reason.Limit (λ e. omega arith)
+
+not-area : (xs : List ℕ) → ((i : ℕ) → i < most-parts → Machine (place xs i)) → NotTwo (check-area 0 xs)
+unfolding check-area check-parts check-part
+not-area xs m = rw (modulus-zero, words-taken) (
+    not-then (check-order (λ i. used (place xs i))) _ (not-order _) (
+    not-then (each most-parts (λ i. cond (used (place xs i)) (check-polynomial (Place i) words (place xs i)) Answered)) _
+    (not-each most-parts _ (λ i l. not-cond (used (place xs i)) (not-polynomial (Place i) (m i l)))) (not-product (place xs))
+    )
+    )
+
+pub no-two-write-sheet : {xs b c : List ℕ} {o : Outcome} → ((i : ℕ) → i < most-parts → Machine (place xs i)) → WritesSheet 0 xs b c o → NotTwo o
+unfolding check-writer
+no-two-write-sheet {xs} {b} m (answers.refused e a q) = not-as (q ∙ sym e) (not-then (check-room (length b) (length xs)) (check-area 0 xs) (not-room (length b) (length xs)) (not-area xs m))
+no-two-write-sheet m (answers.made e a q) = not-as q not-answered
+
+module _ {b : List ℕ} (s : Bytes b) (z : (i : ℕ) → i < most-parts → word (record-at b i) 0 ≡ 0) where
+  not-placed : (i : ℕ) → i < most-parts → NotTwo (check-placed (record-at b i) i)
+  unfolding check-placed check-words
+  not-placed i l = not-cond (used (record-at b i)) (rw (z i l, modulus-zero, words-taken) (not-polynomial (Place i) (coefficients-machine (bytes-piece record-bytes (i * record-bytes) s))))
+
+  not-sheet : NotTwo (check-sheet b)
+  unfolding check-sheet check-records check-moduli
+  not-sheet =
+      not-then (each most-parts (λ i. check-placed (record-at b i) i)) _ (not-each most-parts _ not-placed) (
+      not-then (check-order (λ i. used (record-at b i))) _ (not-order _) (
+      not-then (check-moduli b) _ (not-each most-parts _ (λ i l. not-refuse (used (record-at b i) && not (eqb (word (record-at b i) 0) (word b 0))) Neither reason.Sheet (λ e. omega arith))) (not-product (held b))
+      )
+      )
+
+  pub no-two-read-sheet : {xs ys : List ℕ} {x : Contents} → ReadsSheet b xs ys x → NotTwo (x .outcome)
+  unfolding unread
+  no-two-read-sheet {xs} (answers.short e a q) = not-as (ap (λ (x : Contents). x .outcome) q ∙ sym e) (not-room (length b) (length xs))
+  no-two-read-sheet (answers.refused e k a q) = not-as (ap (λ (x : Contents). x .outcome) q ∙ sym k) not-sheet
+  no-two-read-sheet (answers.taken e k a q) = not-as (ap (λ (x : Contents). x .outcome) q) not-answered
