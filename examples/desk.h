@@ -4,6 +4,10 @@
  * by its number, and every result is written, zeros after a refusal (a change is then (1, 0), a sheet stays as it is, and after
  * No. 11 so does an area). What is past the DESK_WORDS of an area, or the DESK_SHEET of a sheet, is neither read nor written.
  *
+ * A modulus m is a word: 2 to 2,147,483,647, or 0, which means 2^32. At 2^32 every word is a coefficient; No. 5 is given for an
+ * even r and for a chain of an even n, No. 8 for an even a alone. The modulus that desk_check and desk_read_sheet write is that
+ * word; after a refusal it is 0 as well, so look at the number first.
+ *
  * Memory: no pointer may be null, and each is aligned for its type, also where a count is 0 and nothing is read or written.
  * What a function writes (what is not const) may overlap nothing else that it is given: no other result, and nothing that
  * it reads. What it only reads may overlap: g and h may be one polynomial. Nobody else writes any of it before the call
@@ -27,11 +31,12 @@ extern "C" {
 #define DESK_WORDS (DESK_PARTS * DESK_TERMS) /* words of a chain area that are used */
 #define DESK_BYTES (4 * (1 + DESK_TERMS))    /* bytes of a record: the modulus, then the coefficients */
 #define DESK_SHEET (DESK_PARTS * DESK_BYTES) /* bytes of a chain sheet that are used: a record for each place of an area */
+#define DESK_TWO_TO_32 0                     /* the modulus word that means 2^32 */
 
 typedef uint32_t desk_polynomial[DESK_TERMS];
 
 /* number: 0 if the request was answered, else
- *    1  m is no modulus                             6  r, or the degree of h, does not fit
+ *    1  m is 1 or above 2,147,483,647               6  r, or the degree of h, does not fit
  *    2  a coefficient is m or more                  7  no pair; no left part
  *    3  the degree is below 2, or all is zero       8  a or b is m or more, or a has no inverse
  *    4  the leading coefficient is not 1            9  fewer bytes than a record has

@@ -3,6 +3,9 @@
 A polynomial is a list of at most TERMS whole numbers, constant term first; an answer has no zeros above its degree. A change
 is (a, b). Where 01 or 02 refuses, Refused is raised. What is no request at all raises ValueError (a number that does not fit
 its word, a list that is too long) or TypeError (what is no whole number).
+
+A modulus m is a word: 2 to 2147483647, or 0, which means 2^32 (2**32 fits no word). The modulus in an answer is that word too.
+At 2^32 every word is a coefficient; No. 5 is given for an even r and for a chain of an even n, No. 8 for an even a alone.
 """
 
 import collections
@@ -16,9 +19,10 @@ PARTS = 6  # parts of a chain at most
 WORDS = PARTS * TERMS  # words of a chain area that are used
 BYTES = 4 * (1 + TERMS)  # bytes of a record: the modulus, then the coefficients
 SHEET = PARTS * BYTES  # bytes of a chain sheet that are used: a record for each place of an area
+TWO_TO_32 = 0  # the modulus word that means 2^32
 
 REASONS = {
-    1: "m is no modulus",
+    1: "m is 1 or above 2147483647",
     2: "a coefficient is m or more",
     3: "the degree is below 2, or all is zero",
     4: "the leading coefficient is not 1",

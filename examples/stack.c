@@ -3,8 +3,8 @@
  *
  *     cc -O2 -Wl,-z,now -o target/examples/stack examples/stack.c target/staticlib/libdesk.a && target/examples/stack
  *
- * The requests are x^n and x^n + x at all degrees of g and h, and the sheet of g and h; the most that any of them takes is
- * printed. By -z,now memcpy is found before the first call, which would count as the function's own. */
+ * The requests are x^n and x^n + x at all degrees of g and h, and the sheet of g and h, modulo 101 and 2^32; the most that any
+ * of them takes is printed. By -z,now memcpy is found before the first call, which would count as the function's own. */
 #include <stdio.h>
 #include <string.h>
 #include <ucontext.h>
@@ -17,8 +17,8 @@
 static unsigned char stack[ROOM] __attribute__((aligned(16)));
 static ucontext_t caller, callee;
 
-static const uint32_t m = 101;
-static const uint8_t square[DESK_BYTES] = {101, [4 * 3] = 1};
+static uint32_t m;
+static uint8_t square[DESK_BYTES] = {[4 * 3] = 1};
 static desk_polynomial f, g, h, left, right;
 static uint32_t area[DESK_WORDS], change[2];
 static uint8_t sheet[DESK_SHEET];
@@ -28,10 +28,10 @@ static void check(void) { desk_check(square, sizeof square, change, left, number
 static void compose(void) { desk_compose(m, g, h, left); }
 static void left_part(void) { desk_left_part(m, f, h, left); }
 static void split(void) { desk_split(m, f, r, left, right); }
-static void change_polynomial(void) { desk_change_polynomial(m, f, 2, 3, left); }
-static void change_pair(void) { desk_change_pair(m, g, h, 2, 3, left, right); }
-static void combine(void) { desk_combine(m, 2, 3, 5, 7, change); }
-static void undo(void) { desk_undo(m, 2, 3, change); }
+static void change_polynomial(void) { desk_change_polynomial(m, f, 3, 2, left); }
+static void change_pair(void) { desk_change_pair(m, g, h, 3, 2, left, right); }
+static void combine(void) { desk_combine(m, 3, 2, 5, 7, change); }
+static void undo(void) { desk_undo(m, 3, 2, change); }
 static void chain(void) { desk_chain(m, f, area, DESK_WORDS, numbers); }
 static void part(void) { desk_part(area, DESK_WORDS, 0, numbers); }
 static void write_sheet(void) { desk_write_sheet(m, area, DESK_WORDS, sheet, DESK_SHEET); }
@@ -60,8 +60,10 @@ static size_t taken(void (*run)(void)) {
     return ROOM - untouched;
 }
 
-static size_t most_taken(void (*run)(void)) {
+static size_t most_taken(void (*run)(void), uint32_t modulus) {
     size_t most = 0;
+    m = modulus;
+    square[0] = (uint8_t)m;
     for (r = 2; 2 * r < DESK_TERMS; r++) {
         for (size_t s = 2; r * s < DESK_TERMS; s++) {
             memset(f, 0, sizeof f);
@@ -83,7 +85,8 @@ static size_t most_taken(void (*run)(void)) {
 
 int main(void) {
     for (size_t i = 0; i < sizeof functions / sizeof *functions; i++) {
-        size_t most = most_taken(functions[i].run);
+        size_t most = most_taken(functions[i].run, 101), at_2_32 = most_taken(functions[i].run, DESK_TWO_TO_32);
+        if (most < at_2_32) most = at_2_32;
         printf("%-24s %6zu bytes, %zu KB\n", functions[i].name, most, (most + 1023) / 1024);
     }
     return 0;

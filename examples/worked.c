@@ -1,4 +1,5 @@
-/* 01's worked polynomials, asked of all twelve functions. It is C and C++; worked.py asks the same and prints the same. */
+/* 01's worked polynomials, and others modulo 2^32, asked of all twelve functions. It is C and C++; worked.py asks the same and
+ * prints the same. */
 #include <inttypes.h>
 #include <stdio.h>
 #include <string.h>
@@ -219,6 +220,52 @@ static void sheets(void) {
     write_sheet("E, sheet, 22, 2 and 3", 101, area, DESK_WORDS, sheet);
 }
 
+static void whole_words(void) {
+    static const desk_polynomial P = {5, 4294967295, 3000000000, 1};
+    static const desk_polynomial Q = {0, 2147483649, 4000000000, 1};
+    static const desk_polynomial square_less_1 = {4294967295, 0, 1};
+    static const desk_polynomial cube_and_3x = {0, 3, 0, 1};
+    static const desk_polynomial zero = {0};
+    const uint32_t m = DESK_TWO_TO_32;
+    desk_polynomial N, f, g, h;
+    one("2^32, x^2 - 1 after x^2 + 1", desk_compose(m, square_less_1, square_and_1, f), f);
+    one("2^32, N = P after Q", desk_compose(m, P, Q, N), N);
+    two("2^32, N split at 3", desk_split(m, N, 3, g, h), g, h);
+    memcpy(f, N, sizeof f);
+    f[1] += 1;
+    two("2^32, N + x split at 3", desk_split(m, f, 3, g, h), g, h);
+    two("2^32, A split at 3", desk_split(m, A, 3, g, h), g, h);
+    two("2^32, A split at 2", desk_split(m, A, 2, g, h), g, h);
+    one("2^32, B, left part", desk_left_part(m, B, cube_and_3x, g), g);
+
+    uint32_t made[2];
+    one("2^32, N changed", desk_change_polynomial(m, N, 3, 5, f), f);
+    two("2^32, N changed, split at 3", desk_split(m, f, 3, g, h), g, h);
+    two("2^32, N, its pair changed", desk_change_pair(m, P, Q, 3, 5, g, h), g, h);
+    one("2^32, N changed by an even a", desk_change_polynomial(m, N, 2, 5, f), f);
+    change("2^32, (3, 5) undone", desk_undo(m, 3, 5, made), made);
+    change("2^32, first (3, 5), then that", desk_combine(m, 3, 5, made[0], made[1], made), made);
+    change("2^32, first (-1, -1), then (3, -1)", desk_combine(m, 4294967295, 4294967295, 3, 4294967295, made), made);
+    change("2^32, first (3, 5), then (2, 0)", desk_combine(m, 3, 5, 2, 0, made), made);
+
+    uint32_t area[DESK_WORDS], back[DESK_WORDS];
+    uint8_t sheet[DESK_SHEET];
+    chain("2^32, A, chain", m, A, area, DESK_WORDS);
+    chain("2^32, N, chain", m, N, area, DESK_WORDS);
+    write_sheet("2^32, N, sheet", m, area, DESK_WORDS, sheet);
+    read_sheet("2^32, N, sheet read", sheet, DESK_SHEET, back);
+    same("2^32, N, written and read", area, back, sizeof area);
+    write_sheet("N, sheet, m 101", 101, area, DESK_WORDS, sheet);
+    memset(sheet + DESK_BYTES, 0, DESK_BYTES);
+    sheet[DESK_BYTES] = 101;
+    sheet[DESK_BYTES + 4 * (1 + 2)] = 1;
+    read_sheet("N, sheet, m 2^32 and 101", sheet, DESK_SHEET, back);
+
+    check("2^32, N, record", m, N, DESK_BYTES);
+    check("2^32, record of zeros", m, zero, DESK_BYTES);
+    one("m 4294967295", desk_compose(4294967295, square, square, f), f);
+}
+
 int main(void) {
     desk_polynomial f;
     pairs();
@@ -230,5 +277,6 @@ int main(void) {
     check("E, record, m 9", 9, E, DESK_BYTES);
     one("E as h, m 9", desk_compose(9, square, E, f), f);
     sheets();
+    whole_words();
     return 0;
 }

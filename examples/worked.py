@@ -1,4 +1,4 @@
-"""01's worked polynomials, asked of all operations of desk.py. It prints what worked.c prints."""
+"""01's worked polynomials, and others modulo 2^32, asked of all operations of desk.py. It prints what worked.c prints."""
 
 import struct
 
@@ -148,6 +148,41 @@ def sheets():
     say("E, sheet, 22, 2 and 3", written, desk.write_sheet, 101, area)
 
 
+def whole_words():
+    m, most = desk.TWO_TO_32, (1 << 32) - 1
+    p, q = [5, most, 3000000000, 1], [0, 2147483649, 4000000000, 1]
+    say("2^32, x^2 - 1 after x^2 + 1", str, desk.compose, m, [most, 0, 1], [1, 0, 1])
+    n = say("2^32, N = P after Q", str, desk.compose, m, p, q)
+    say("2^32, N split at 3", two, desk.split, m, n, 3)
+    say("2^32, N + x split at 3", two, desk.split, m, [n[0], n[1] + 1, *n[2:]], 3)
+    say("2^32, A split at 3", two, desk.split, m, A, 3)
+    say("2^32, A split at 2", two, desk.split, m, A, 2)
+    say("2^32, B, left part", str, desk.left_part, m, B, [0, 3, 0, 1])
+
+    changed = say("2^32, N changed", str, desk.change_polynomial, m, n, (3, 5))
+    say("2^32, N changed, split at 3", two, desk.split, m, changed, 3)
+    say("2^32, N, its pair changed", two, desk.change_pair, m, p, q, (3, 5))
+    say("2^32, N changed by an even a", str, desk.change_polynomial, m, n, (2, 5))
+    undoing = say("2^32, (3, 5) undone", str, desk.undo, m, (3, 5))
+    say("2^32, first (3, 5), then that", str, desk.combine, m, (3, 5), undoing)
+    say("2^32, first (-1, -1), then (3, -1)", str, desk.combine, m, (most, most), (3, most))
+    say("2^32, first (3, 5), then (2, 0)", str, desk.combine, m, (3, 5), (2, 0))
+
+    area, back = [0] * desk.WORDS, [0] * desk.WORDS
+    say("2^32, A, chain", chained, desk.chain, m, A, area)
+    say("2^32, N, chain", chained, desk.chain, m, n, area)
+    sheet = say("2^32, N, sheet", written, desk.write_sheet, m, area)
+    say("2^32, N, sheet read", read, desk.read_sheet, sheet, back)
+    same("2^32, N, written and read", area, back)
+    say("N, sheet, m 101", written, desk.write_sheet, 101, area)
+    other = record(101, SQUARE)
+    say("N, sheet, m 2^32 and 101", read, desk.read_sheet, sheet[: desk.BYTES] + other + sheet[2 * desk.BYTES :])
+
+    say("2^32, N, record", checked, desk.check, record(m, n))
+    say("2^32, record of zeros", checked, desk.check, record(m, []))
+    say("m 4294967295", str, desk.compose, most, SQUARE, SQUARE)
+
+
 def no_request(error, ask, *request):
     """What is no request at all raises a plain error of Python, and the desk is not asked."""
     try:
@@ -183,4 +218,5 @@ if __name__ == "__main__":
     limits()
     records()
     sheets()
+    whole_words()
     no_requests()
