@@ -1,23 +1,16 @@
+use crate::compose::sum;
 use crate::desk::desk_change_polynomial;
-use crate::plain::{invert, Polynomial, TERMS};
-use crate::timing::{beside, Random};
+use crate::plain::{
+    accepted, degree, invert, modulus, multiply, two_products, Below, Modulus, Polynomial, Words,
+    TERMS,
+};
+use crate::split::monic;
+use crate::timing::{at, beside, Random};
 use std::hint::black_box;
 
-fn two_products(a: u32, x: u32, b: u32, y: u32, m: u64) -> u32 {
-    crate::plain::reduced(
-        (a as u64 * x as u64) as u128 + (b as u64 * y as u64) as u128,
-        m,
-    )
-}
-
 /// a^(-n)·f(a·x + b) by Horner's rule, with two products a place: the desk composes f with the line a·x + b.
-fn changed(m: u32, f: &Polynomial, a: u32, b: u32) -> Option<Polynomial> {
-    let n = crate::plain::degree(f);
-    if !crate::plain::accepted(m, f) || m <= a || m <= b {
-        return None;
-    }
-    let m = m as u64;
-    let u = invert(a as u64, m)?;
+fn moved<M: Modulus>(f: &Polynomial, n: usize, a: u32, b: u32, m: M) -> Option<Polynomial> {
+    let u = invert(a as u64, m.number())?;
     let mut p = [0; TERMS];
     for i in (0..=n).rev() {
         let mut q = [0; TERMS];
@@ -27,40 +20,46 @@ fn changed(m: u32, f: &Polynomial, a: u32, b: u32) -> Option<Polynomial> {
         }
         p = q;
     }
-    let w = (0..n).fold(1, |w, _| w * u as u64 % m);
+    let w = (0..n).fold(1, |w, _| multiply(w, u, m));
     for c in p.iter_mut() {
-        *c = (w * *c as u64 % m) as u32;
+        *c = multiply(w, *c, m);
     }
     Some(p)
 }
 
-pub fn run() {
-    let (mut random, m) = (Random(3), 2147483647u32);
+fn changed(m: u32, f: &Polynomial, a: u32, b: u32) -> Option<Polynomial> {
+    let n = degree(f);
+    if !accepted(m, f) || (m != 0 && (m <= a || m <= b)) {
+        return None;
+    }
+    match m {
+        0 => moved(f, n, a, b, Words),
+        _ => moved(f, n, a, b, Below(m as u64)),
+    }
+}
+
+fn rows(random: &mut Random, m: u32) {
     for n in [30usize, 60, 126] {
-        let mut f = [0; TERMS];
-        for c in f.iter_mut().take(n) {
-            *c = (random.next() % m as u64) as u32;
-        }
-        f[n] = 1;
-        let (a, b) = (
-            (random.next() % m as u64) as u32,
-            (random.next() % m as u64) as u32,
-        );
+        let f = monic(random, m, n);
+        let mut word = || (random.next() % modulus(m)) as u32;
+        let (a, b) = (word(), word());
+        let a = if m == 0 { a | 1 } else { a }; // at 2^32 no even a has an inverse
         beside(
-            &format!("change of a polynomial of degree {n}"),
+            &format!("change of a polynomial of degree {n}{}", at(m)),
             20,
             &mut |_| {
                 let mut out = [0; TERMS];
                 let refused = unsafe { desk_change_polynomial(m, black_box(&f), a, b, &mut out) };
                 assert!(refused.number == 0 && refused.polynomial == 0 && refused.power == 0);
-                out.iter()
-                    .fold(0u64, |x, &c| x.wrapping_mul(31).wrapping_add(c as u64))
+                sum(&out)
             },
-            &mut |_| {
-                let out = changed(m, black_box(&f), a, b).unwrap();
-                out.iter()
-                    .fold(0u64, |x, &c| x.wrapping_mul(31).wrapping_add(c as u64))
-            },
+            &mut |_| sum(&changed(m, black_box(&f), a, b).unwrap()),
         );
     }
+}
+
+pub fn run() {
+    let mut random = Random(3);
+    rows(&mut random, 2147483647);
+    rows(&mut random, 0);
 }

@@ -1,7 +1,10 @@
 //! Records per second of the proved program `list` and of a plain Rust listing by the same method, both as programs that
 //! read a file and write to a pipe; then of `list` and `sheets`, which read and write a file.
 
-use crate::plain::{accepted, binomials, degree, invert, split_at, Polynomial, TERMS};
+use crate::plain::{
+    accepted, binomials, degree, invert, modulus, split_at, Below, Modulus, Polynomial, Words,
+    TERMS,
+};
 use crate::timing::Random;
 use std::fs::{self, File};
 use std::io::{Read, Write};
@@ -14,9 +17,9 @@ const RUNS: usize = 5;
 
 /// The refusal number of a whole record, or 0.
 fn check(m: u32, f: &Polynomial) -> u32 {
-    if !(2..=2147483647).contains(&m) {
+    if m == 1 || 2147483647 < m {
         1
-    } else if f.iter().any(|&c| c >= m) {
+    } else if m != 0 && f.iter().any(|&c| c >= m) {
         2
     } else if degree(f) < 2 {
         3
@@ -28,7 +31,7 @@ fn check(m: u32, f: &Polynomial) -> u32 {
 }
 
 /// The degrees of the chain's parts, left to right, and the tries.
-fn chain(m: u64, f: &Polynomial, table: &[u64]) -> (Vec<usize>, usize) {
+fn chain<M: Modulus>(m: M, f: &Polynomial, table: &[u64]) -> (Vec<usize>, usize) {
     let n = degree(f);
     let mut tries = 0;
     for s in 2..=n / 2 {
@@ -61,11 +64,14 @@ fn line(record: &[u8], number: usize, table: &[u64], out: &mut Vec<u8>) {
         return;
     }
     let n = degree(&f);
-    if invert(n as u64, m as u64).is_none() {
+    if invert(n as u64, modulus(m)).is_none() {
         writeln!(out, "{number} 5").unwrap();
         return;
     }
-    let (parts, tries) = chain(m as u64, &f, table);
+    let (parts, tries) = match m {
+        0 => chain(Words, &f, table),
+        _ => chain(Below(m as u64), &f, table),
+    };
     write!(
         out,
         "{number} 0 {n} {} {tries} {}",
@@ -114,7 +120,7 @@ fn record(m: u32, f: &Polynomial) -> Vec<u8> {
 fn monic(random: &mut Random, m: u32, n: usize, constant: bool) -> Polynomial {
     let mut f = [0; TERMS];
     for c in f.iter_mut().take(n).skip(usize::from(!constant)) {
-        *c = (random.next() % m as u64) as u32;
+        *c = (random.next() % modulus(m)) as u32;
     }
     f[n] = 1;
     f
@@ -122,7 +128,7 @@ fn monic(random: &mut Random, m: u32, n: usize, constant: bool) -> Polynomial {
 
 /// g(h) by Horner's rule.
 fn compose(m: u32, g: &Polynomial, h: &Polynomial) -> Polynomial {
-    let (m, s) = (m as u64, degree(h));
+    let (m, s) = (modulus(m), degree(h));
     let mut f = [0u64; TERMS];
     for i in (0..=degree(g)).rev() {
         let mut next = [0u64; TERMS];
@@ -155,6 +161,28 @@ const CHAINS: [&[usize]; 6] = [
     &[5, 5, 5],
 ];
 
+/// For 2^32, where only an odd degree gets a chain.
+const ODD_CHAINS: [&[usize]; 6] = [
+    &[3, 3, 3, 3],
+    &[3, 3, 13],
+    &[3, 5, 7],
+    &[11, 11],
+    &[3, 41],
+    &[5, 5, 5],
+];
+
+fn indecomposable(random: &mut Random, m: u32, n: usize) -> Vec<u8> {
+    (0..2000)
+        .flat_map(|_| record(m, &monic(random, m, n, true)))
+        .collect()
+}
+
+fn planted_chains(random: &mut Random, m: u32, chains: &[&[usize]]) -> Vec<u8> {
+    (0..4000)
+        .flat_map(|i| record(m, &planted(random, m, chains[i % chains.len()])))
+        .collect()
+}
+
 /// The files that both programs list.
 fn files(random: &mut Random) -> Vec<(&'static str, Vec<u8>, usize)> {
     let m = 2147483647;
@@ -164,15 +192,9 @@ fn files(random: &mut Random) -> Vec<(&'static str, Vec<u8>, usize)> {
         ("indecomposable, degree 120", 120),
         ("indecomposable, degree 64", 64),
     ] {
-        let bytes = (0..2000)
-            .flat_map(|_| record(m, &monic(random, m, n, true)))
-            .collect();
-        all.push((label, bytes, 2000));
+        all.push((label, indecomposable(random, m, n), 2000));
     }
-    let chains = (0..4000)
-        .flat_map(|i| record(m, &planted(random, m, CHAINS[i % 6])))
-        .collect();
-    all.push(("planted chains", chains, 4000));
+    all.push(("planted chains", planted_chains(random, m, &CHAINS), 4000));
     let refused = (0..200000)
         .flat_map(|i| {
             let mut f = monic(random, m, 126, true);
@@ -193,6 +215,27 @@ fn files(random: &mut Random) -> Vec<(&'static str, Vec<u8>, usize)> {
         })
         .collect();
     all.push(("mixed", mixed, 6000));
+    for (label, n) in [
+        ("indecomposable, degree 125, m = 2^32", 125),
+        ("indecomposable, degree 105, m = 2^32", 105),
+        ("indecomposable, degree 63, m = 2^32", 63),
+    ] {
+        all.push((label, indecomposable(random, 0, n), 2000));
+    }
+    let chains = planted_chains(random, 0, &ODD_CHAINS);
+    all.push(("planted chains, m = 2^32", chains, 4000));
+    let refused = (0..200000)
+        .flat_map(|i| match i % 3 {
+            0 => record(0, &[0; TERMS]),
+            1 => {
+                let mut f = monic(random, 0, 126, true);
+                f[126] = 2;
+                record(0, &f)
+            }
+            _ => record(0, &monic(random, 0, 126, true)),
+        })
+        .collect();
+    all.push(("refused by 3, 4 and 5, m = 2^32", refused, 200000));
     all
 }
 

@@ -3,47 +3,134 @@
 pub const TERMS: usize = 127;
 pub type Polynomial = [u32; TERMS];
 
-pub fn reduced(w: u128, m: u64) -> u32 {
-    let (high, low) = ((w >> 64) as u64, w as u64);
-    if high == 0 {
-        return (low % m) as u32;
+/// The number that a modulus word means.
+pub fn modulus(word: u32) -> u64 {
+    if word == 0 {
+        1 << 32
+    } else {
+        word as u64
     }
-    let x = ((high << 32) | (low >> 32)) % m;
-    (((x << 32) | (low & 0xffff_ffff)) % m) as u32
 }
 
-pub fn inner_product(a: &[u32], b: &[u32], k: usize, lo: usize, hi: usize, m: u64) -> u32 {
-    let mut w = 0u128;
+/// What the two kinds of moduli do each in its own way. All else is written once and compiled for each of them.
+pub trait Modulus: Copy {
+    /// A sum of products, not reduced yet.
+    type Sum: Default;
+
+    fn number(self) -> u64;
+    fn add(sum: &mut Self::Sum, a: u32, b: u32);
+    fn reduced(self, sum: Self::Sum) -> u32;
+    fn residue(self, x: u64) -> u32;
+    fn subtract(self, a: u32, b: u32) -> u32;
+}
+
+/// A modulus below 2^31: sums are exact, and reduced once at the end.
+#[derive(Clone, Copy)]
+pub struct Below(pub u64);
+
+/// The modulus 2^32: words run round, and there is nothing to reduce.
+#[derive(Clone, Copy)]
+pub struct Words;
+
+impl Modulus for Below {
+    type Sum = u128;
+
+    fn number(self) -> u64 {
+        self.0
+    }
+
+    fn add(sum: &mut u128, a: u32, b: u32) {
+        *sum += (a as u64 * b as u64) as u128;
+    }
+
+    fn reduced(self, sum: u128) -> u32 {
+        let (m, high, low) = (self.0, (sum >> 64) as u64, sum as u64);
+        if high == 0 {
+            return (low % m) as u32;
+        }
+        let x = ((high << 32) | (low >> 32)) % m;
+        (((x << 32) | (low & 0xffff_ffff)) % m) as u32
+    }
+
+    fn residue(self, x: u64) -> u32 {
+        (x % self.0) as u32
+    }
+
+    fn subtract(self, a: u32, b: u32) -> u32 {
+        if b <= a {
+            a - b
+        } else {
+            (self.0 - b as u64 + a as u64) as u32
+        }
+    }
+}
+
+impl Modulus for Words {
+    type Sum = u32;
+
+    fn number(self) -> u64 {
+        1 << 32
+    }
+
+    fn add(sum: &mut u32, a: u32, b: u32) {
+        *sum = sum.wrapping_add(a.wrapping_mul(b));
+    }
+
+    fn reduced(self, sum: u32) -> u32 {
+        sum
+    }
+
+    fn residue(self, x: u64) -> u32 {
+        x as u32
+    }
+
+    fn subtract(self, a: u32, b: u32) -> u32 {
+        a.wrapping_sub(b)
+    }
+}
+
+pub fn multiply<M: Modulus>(a: u32, b: u32, m: M) -> u32 {
+    m.residue(a as u64 * b as u64)
+}
+
+pub fn two_products<M: Modulus>(a: u32, x: u32, b: u32, y: u32, m: M) -> u32 {
+    let mut w = M::Sum::default();
+    M::add(&mut w, a, x);
+    M::add(&mut w, b, y);
+    m.reduced(w)
+}
+
+pub fn inner_product<M: Modulus>(
+    a: &[u32],
+    b: &[u32],
+    k: usize,
+    lo: usize,
+    hi: usize,
+    m: M,
+) -> u32 {
+    let mut w = M::Sum::default();
     for i in lo..hi {
-        w += (a[i] as u64 * b[k - i] as u64) as u128;
+        M::add(&mut w, a[i], b[k - i]);
     }
-    reduced(w, m)
+    m.reduced(w)
 }
 
-pub fn strided_product(
+pub fn strided_product<M: Modulus>(
     a: &[u32],
     b: &[u32],
     lo: usize,
     hi: usize,
     at: usize,
     step: usize,
-    m: u64,
+    m: M,
 ) -> u32 {
-    let mut w = 0u128;
+    let mut w = M::Sum::default();
     let mut j = at;
     for i in lo..hi {
-        w += (a[i] as u64 * b[j] as u64) as u128;
+        M::add(&mut w, a[i], b[j]);
         j += step;
     }
-    reduced(w, m)
-}
-
-pub fn subtract(a: u32, b: u32, m: u64) -> u32 {
-    if b <= a {
-        a - b
-    } else {
-        (m - b as u64 + a as u64) as u32
-    }
+    m.reduced(w)
 }
 
 pub fn invert(a: u64, m: u64) -> Option<u32> {
@@ -75,18 +162,18 @@ pub fn degree(f: &Polynomial) -> usize {
     f.iter().rposition(|&c| c != 0).unwrap_or(0)
 }
 
-fn right_part(
+fn right_part<M: Modulus>(
     f: &Polynomial,
     n: usize,
     r: usize,
     s: usize,
     u: u32,
     table: &[u64],
-    m: u64,
+    m: M,
 ) -> Polynomial {
     let mut b = [0u32; 64];
     for i in 0..=r {
-        b[i] = (table[r * (r + 1) / 2 + i] % m) as u32;
+        b[i] = m.residue(table[r * (r + 1) / 2 + i]);
     }
     let mut t = [0u32; TERMS];
     for k in 1..s {
@@ -98,8 +185,7 @@ fn right_part(
             t[at] = x;
         }
         let d = strided_product(&b, &t, 2, last + 1, s + k, s, m);
-        let x = subtract(f[n - k], d, m);
-        t[k] = (x as u64 * u as u64 % m) as u32;
+        t[k] = multiply(m.subtract(f[n - k], d), u, m);
     }
     let mut h = [0u32; TERMS];
     for k in 1..s {
@@ -109,7 +195,7 @@ fn right_part(
     h
 }
 
-fn powers(h: &Polynomial, r: usize, s: usize, m: u64) -> [u32; 64 * TERMS] {
+fn powers<M: Modulus>(h: &Polynomial, r: usize, s: usize, m: M) -> [u32; 64 * TERMS] {
     let mut t = [0u32; 64 * TERMS];
     t[0] = 1;
     for i in 0..r {
@@ -121,19 +207,19 @@ fn powers(h: &Polynomial, r: usize, s: usize, m: u64) -> [u32; 64 * TERMS] {
     t
 }
 
-fn left_part(
+fn left_part<M: Modulus>(
     f: &Polynomial,
     h: &Polynomial,
     n: usize,
     r: usize,
     s: usize,
-    m: u64,
+    m: M,
 ) -> Option<Polynomial> {
     let t = powers(h, r, s, m);
     let mut g = [0u32; TERMS];
     for j in (0..=r).rev() {
         let given = strided_product(&g, &t, j + 1, r + 1, (j + 1) * TERMS + j * s, TERMS, m);
-        g[j] = subtract(f[j * s], given, m);
+        g[j] = m.subtract(f[j * s], given);
     }
     for k in 0..=n {
         if f[k] != strided_product(&g, &t, 0, r + 1, k, TERMS, m) {
@@ -144,22 +230,27 @@ fn left_part(
 }
 
 /// The pair at left degree r, right degree s; r must have an inverse.
-pub fn split_at(
+pub fn split_at<M: Modulus>(
     f: &Polynomial,
     n: usize,
     r: usize,
     s: usize,
     table: &[u64],
-    m: u64,
+    m: M,
 ) -> Option<(Polynomial, Polynomial)> {
-    let u = invert(r as u64, m)?;
+    let u = invert(r as u64, m.number())?;
     let h = right_part(f, n, r, s, u, table, m);
     left_part(f, &h, n, r, s, m).map(|g| (g, h))
 }
 
 /// The checks 1 to 4 of one polynomial.
 pub fn accepted(m: u32, f: &Polynomial) -> bool {
-    (2..=2147483647).contains(&m) && f.iter().all(|&c| c < m) && degree(f) >= 2 && f[degree(f)] == 1
+    let reduced = match m {
+        0 => true,
+        2..=2147483647 => f.iter().all(|&c| c < m),
+        _ => false,
+    };
+    reduced && degree(f) >= 2 && f[degree(f)] == 1
 }
 
 pub fn split(m: u32, f: &Polynomial, r: usize, table: &[u64]) -> Option<(Polynomial, Polynomial)> {
@@ -167,5 +258,8 @@ pub fn split(m: u32, f: &Polynomial, r: usize, table: &[u64]) -> Option<(Polynom
     if !accepted(m, f) || r < 2 || n % r != 0 || n / r < 2 {
         return None;
     }
-    split_at(f, n, r, n / r, table, m as u64)
+    match m {
+        0 => split_at(f, n, r, n / r, table, Words),
+        _ => split_at(f, n, r, n / r, table, Below(m as u64)),
+    }
 }

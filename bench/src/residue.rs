@@ -1,4 +1,4 @@
-use crate::plain::{inner_product, invert as plain_invert};
+use crate::plain::{inner_product, invert as plain_invert, multiply, Below, Modulus, Words};
 use crate::timing::{beside, Random};
 
 const MOST: u64 = 1 << 32;
@@ -20,8 +20,12 @@ extern "C" {
 // The plain functions test their arguments as the exported ones do and are not inlined: a call costs the same on both sides.
 
 #[inline(never)]
-fn product(a: &[u32], b: &[u32], m: u64, out: &mut [u32]) {
-    if m == 0 || MOST < m || a.len() < out.len() || b.len() < out.len() || 0x7fff_ffff <= out.len()
+fn product<M: Modulus>(a: &[u32], b: &[u32], m: M, out: &mut [u32]) {
+    if m.number() == 0
+        || MOST < m.number()
+        || a.len() < out.len()
+        || b.len() < out.len()
+        || 0x7fff_ffff <= out.len()
     {
         return;
     }
@@ -31,19 +35,19 @@ fn product(a: &[u32], b: &[u32], m: u64, out: &mut [u32]) {
 }
 
 #[inline(never)]
-fn power(a: u32, n: usize, m: u64) -> u32 {
-    if m == 0 || MOST < m {
+fn power<M: Modulus>(a: u32, n: usize, m: M) -> u32 {
+    if m.number() == 0 || MOST < m.number() {
         return 0;
     }
-    let (mut result, mut square, mut left) = (1 % m, a as u64, n);
+    let (mut result, mut square, mut left) = (m.residue(1), a, n);
     while left != 0 {
         if left % 2 == 1 {
-            result = result * square % m;
+            result = multiply(result, square, m);
         }
-        square = square * square % m;
+        square = multiply(square, square, m);
         left /= 2;
     }
-    result as u32
+    result
 }
 
 #[inline(never)]
@@ -54,46 +58,51 @@ fn invert(a: u64, m: u64) -> u64 {
     plain_invert(a, m).unwrap_or(0) as u64
 }
 
-pub fn run() {
-    let mut random = Random(1);
-    for m in [101u64, 2147483647, 1 << 32] {
-        let a: Vec<u32> = (0..512).map(|_| (random.next() % m) as u32).collect();
-        let b: Vec<u32> = (0..512).map(|_| (random.next() % m) as u32).collect();
-        for terms in [8usize, 64, 127] {
-            let (mut ours, mut plain) = (vec![0; terms], vec![0; terms]);
-            beside(
-                &format!("the {terms} coefficients of a product, m = {m}"),
-                100,
-                &mut |i| unsafe {
-                    measure_product(
-                        a[i..].as_ptr(),
-                        a.len() - i,
-                        b.as_ptr(),
-                        b.len(),
-                        m,
-                        ours.as_mut_ptr(),
-                        terms,
-                    );
-                    ours[terms - 1] as u64
-                },
-                &mut |i| {
-                    product(&a[i..], &b, m, &mut plain);
-                    plain[terms - 1] as u64
-                },
-            );
-        }
-        let numbers: Vec<u64> = (0..1000).map(|_| random.next() % m).collect();
+fn rows<M: Modulus>(modulus: M, random: &mut Random) {
+    let m = modulus.number();
+    let a: Vec<u32> = (0..512).map(|_| (random.next() % m) as u32).collect();
+    let b: Vec<u32> = (0..512).map(|_| (random.next() % m) as u32).collect();
+    for terms in [8usize, 64, 127] {
+        let (mut ours, mut plain) = (vec![0; terms], vec![0; terms]);
         beside(
-            &format!("power 126, m = {m}"),
-            1000,
-            &mut |i| unsafe { measure_power(numbers[i] as u32, 126, m) as u64 },
-            &mut |i| power(numbers[i] as u32, 126, m) as u64,
-        );
-        beside(
-            &format!("inverse, m = {m}"),
-            1000,
-            &mut |i| unsafe { measure_invert(numbers[i], m) },
-            &mut |i| invert(numbers[i], m),
+            &format!("the {terms} coefficients of a product, m = {m}"),
+            100,
+            &mut |i| unsafe {
+                measure_product(
+                    a[i..].as_ptr(),
+                    a.len() - i,
+                    b.as_ptr(),
+                    b.len(),
+                    m,
+                    ours.as_mut_ptr(),
+                    terms,
+                );
+                ours[terms - 1] as u64
+            },
+            &mut |i| {
+                product(&a[i..], &b, modulus, &mut plain);
+                plain[terms - 1] as u64
+            },
         );
     }
+    let numbers: Vec<u64> = (0..1000).map(|_| random.next() % m).collect();
+    beside(
+        &format!("power 126, m = {m}"),
+        1000,
+        &mut |i| unsafe { measure_power(numbers[i] as u32, 126, m) as u64 },
+        &mut |i| power(numbers[i] as u32, 126, modulus) as u64,
+    );
+    beside(
+        &format!("inverse, m = {m}"),
+        1000,
+        &mut |i| unsafe { measure_invert(numbers[i], m) },
+        &mut |i| invert(numbers[i], m),
+    );
+}
+
+pub fn run() {
+    let mut random = Random(1);
+    rows(Below(101), &mut random);
+    rows(Below(2147483647), &mut random);
+    rows(Words, &mut random);
 }

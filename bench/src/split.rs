@@ -1,12 +1,12 @@
 use crate::desk::{desk_compose, desk_split};
-use crate::plain::{binomials, degree, split, Polynomial, TERMS};
-use crate::timing::{beside, Random};
+use crate::plain::{binomials, degree, modulus, split, Polynomial, TERMS};
+use crate::timing::{at, beside, Random};
 use std::hint::black_box;
 
 pub fn monic(random: &mut Random, m: u32, n: usize) -> Polynomial {
     let mut f = [0; TERMS];
     for c in f.iter_mut().take(n) {
-        *c = (random.next() % m as u64) as u32;
+        *c = (random.next() % modulus(m)) as u32;
     }
     f[n] = 1;
     f
@@ -50,29 +50,30 @@ fn one(label: &str, m: u32, f: &Polynomial, r: usize, table: &[u64]) {
     );
 }
 
+/// Splits of degree n at each of the left degrees.
+fn rows(random: &mut Random, m: u32, n: usize, left: &[usize], table: &[u64]) {
+    let whole = monic(random, m, n);
+    for &r in left {
+        let label = format!("split, degree {n} at r = {r}, no pair{}", at(m));
+        one(&label, m, &whole, r, table);
+    }
+    for &r in left {
+        let f = planted(random, m, r, n / r);
+        assert_eq!(degree(&f), n);
+        let label = format!("split, degree {n} at r = {r}, a pair{}", at(m));
+        one(&label, m, &f, r, table);
+    }
+}
+
 pub fn run() {
-    let (mut random, table, m) = (Random(2), binomials(), 2147483647);
-    for n in [60usize, 120, 126] {
-        let whole = monic(&mut random, m, n);
-        for r in (2..=n / 2).filter(|r| n % r == 0) {
-            one(
-                &format!("split, degree {n} at r = {r}, no pair"),
-                m,
-                &whole,
-                r,
-                &table,
-            );
-        }
-        for r in (2..=n / 2).filter(|r| n % r == 0) {
-            let f = planted(&mut random, m, r, n / r);
-            assert_eq!(degree(&f), n);
-            one(
-                &format!("split, degree {n} at r = {r}, a pair"),
-                m,
-                &f,
-                r,
-                &table,
-            );
-        }
+    let (mut random, table) = (Random(2), binomials());
+    let fitting = |n: usize| (2..=n / 2).filter(move |r| n % r == 0);
+    for n in [60, 120, 126] {
+        let left: Vec<usize> = fitting(n).collect();
+        rows(&mut random, 2147483647, n, &left, &table);
+    }
+    for n in [60, 105, 120, 125, 126] {
+        let odd: Vec<usize> = fitting(n).filter(|r| r % 2 == 1).collect();
+        rows(&mut random, 0, n, &odd, &table);
     }
 }

@@ -34,6 +34,15 @@ pub fn beside(
     println!("{label:<52}{a:>12.1}{b:>12.1}{:>8.2}", a / b);
 }
 
+/// How a label ends: the rows at 2^31 - 1 do not name their modulus.
+pub fn at(m: u32) -> &'static str {
+    if m == 0 {
+        ", m = 2^32"
+    } else {
+        ""
+    }
+}
+
 /// A small generator, so that every run has the same inputs.
 pub struct Random(pub u64);
 
