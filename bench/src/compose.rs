@@ -1,7 +1,5 @@
 use crate::desk::desk_compose;
-use crate::plain::{
-    accepted, degree, inner_product, two_products, Below, Modulus, Polynomial, Words, TERMS,
-};
+use crate::plain::{accepted, degree, two_products, Below, Modulus, Polynomial, Words, TERMS};
 use crate::split::monic;
 use crate::timing::{at, beside, Random};
 use std::hint::black_box;
@@ -13,7 +11,7 @@ fn horner<M: Modulus>(g: &Polynomial, r: usize, h: &Polynomial, s: usize, m: M) 
         let mut q = [0; TERMS];
         q[0] = two_products(h[0], p[0], g[i], 1, m);
         for (k, c) in q.iter_mut().enumerate().take((r - i) * s + 1).skip(1) {
-            *c = inner_product(h, &p, k, 0, k.min(s) + 1, m);
+            *c = m.inner_product(h, &p, k, 0, k.min(s) + 1);
         }
         p = q;
     }

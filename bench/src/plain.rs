@@ -22,6 +22,14 @@ pub trait Modulus: Copy {
     fn reduced(self, sum: Self::Sum) -> u32;
     fn residue(self, x: u64) -> u32;
     fn subtract(self, a: u32, b: u32) -> u32;
+
+    fn inner_product(self, a: &[u32], b: &[u32], k: usize, lo: usize, hi: usize) -> u32 {
+        let mut w = Self::Sum::default();
+        for i in lo..hi {
+            Self::add(&mut w, a[i], b[k - i]);
+        }
+        self.reduced(w)
+    }
 }
 
 /// A modulus below 2^31: sums are exact, and reduced once at the end.
@@ -87,6 +95,15 @@ impl Modulus for Words {
     fn subtract(self, a: u32, b: u32) -> u32 {
         a.wrapping_sub(b)
     }
+
+    /// By slices: with no test inside the loop, words that run round can be added several at once.
+    fn inner_product(self, a: &[u32], b: &[u32], k: usize, lo: usize, hi: usize) -> u32 {
+        let mut w = 0;
+        for (&x, &y) in a[lo..hi].iter().zip(b[k + 1 - hi..=k - lo].iter().rev()) {
+            Self::add(&mut w, x, y);
+        }
+        w
+    }
 }
 
 pub fn multiply<M: Modulus>(a: u32, b: u32, m: M) -> u32 {
@@ -97,21 +114,6 @@ pub fn two_products<M: Modulus>(a: u32, x: u32, b: u32, y: u32, m: M) -> u32 {
     let mut w = M::Sum::default();
     M::add(&mut w, a, x);
     M::add(&mut w, b, y);
-    m.reduced(w)
-}
-
-pub fn inner_product<M: Modulus>(
-    a: &[u32],
-    b: &[u32],
-    k: usize,
-    lo: usize,
-    hi: usize,
-    m: M,
-) -> u32 {
-    let mut w = M::Sum::default();
-    for i in lo..hi {
-        M::add(&mut w, a[i], b[k - i]);
-    }
     m.reduced(w)
 }
 
@@ -180,7 +182,7 @@ fn right_part<M: Modulus>(
         let last = r.min(k);
         let mut at = k;
         for i in 0..last - 1 {
-            let x = inner_product(&t, &t, at, 1, k - i, m);
+            let x = m.inner_product(&t, &t, at, 1, k - i);
             at += s;
             t[at] = x;
         }
@@ -201,7 +203,7 @@ fn powers<M: Modulus>(h: &Polynomial, r: usize, s: usize, m: M) -> [u32; 64 * TE
     for i in 0..r {
         let (from, to) = (i * TERMS, (i + 1) * TERMS);
         for k in 0..=(i + 1) * s {
-            t[to + k] = inner_product(h, &t, from + k, 0, k.min(s) + 1, m);
+            t[to + k] = m.inner_product(h, &t, from + k, 0, k.min(s) + 1);
         }
     }
     t

@@ -1,4 +1,4 @@
-use crate::plain::{inner_product, invert as plain_invert, multiply, Below, Modulus, Words};
+use crate::plain::{invert as plain_invert, multiply, Below, Modulus, Words};
 use crate::timing::{beside, Random};
 
 const MOST: u64 = 1 << 32;
@@ -30,7 +30,7 @@ fn product<M: Modulus>(a: &[u32], b: &[u32], m: M, out: &mut [u32]) {
         return;
     }
     for k in 0..out.len() {
-        out[k] = inner_product(a, b, k, 0, k + 1, m);
+        out[k] = m.inner_product(a, b, k, 0, k + 1);
     }
 }
 
