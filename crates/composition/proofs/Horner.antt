@@ -2,6 +2,7 @@
 --
 --   product-place, product-past  a place of h·p, as one inner product that ends where h does; where h·p ends
 --   step-first, step-next        the places of c + h·p, which is one step
+--   step-line                    the same for a line h, by two products
 --   step-past                    where it ends
 --   Partly m r s g h i d p       p is g's terms from x^i on, divided by x^i, after h, and the next step ends at x^d
 --   partly-none, partly-next     before the first step, and after one more
@@ -26,6 +27,7 @@ use Rattle.algebra.proofs.Coefficients.{coef-plus, coef-times, coef-times-zero}
 use Rattle.algebra.proofs.Polynomials.{_⨾_, same-refl, same-sym, plus-same, times-same, after-same}
 use Rattle.algebra.proofs.Reduction.{reduced-reduced, reduced-same, reduced-place, reduced-equal, reduced-above}
 use Rattle.residue.specs.Residue.{inner}
+use Rattle.residue.proofs.Inner.{inner-none, inner-more}
 use Rattle.polynomial.proofs.Filling.{zeros}
 use Rattle.composition.specs.Composition.{composition, Ends, Composable, Room}
 
@@ -57,6 +59,13 @@ module _ (m c : ℕ) {s d : ℕ} {h p : List ℕ} (room : Room s d h p) where
   pub step-next : (k : ℕ) {n x : ℕ} → 0 < k → n ≡ min k s + 1 → x ≡ inner h p k 0 n % m → x ≡ step k
   step-next zero l q e = absurd (N.not-suc-le-zero l)
   step-next (suc k) l q e = e ∙ ap (λ (y : ℕ). y % m) (ap (inner h p (suc k) 0) q ∙ product-place (room .right) p (suc k) ∙ sym (coef-plus (c ∷ []) (times h p) (suc k) ∙ N.zero-add _))
+
+  -- where h is a line, by two products
+  pub step-line : (k : ℕ) {x : ℕ} → s ≡ 1 → 0 < k → x ≡ (coef h 0 * coef p k + coef h 1 * coef p (k - 1)) % m → x ≡ step k
+  step-line k o l e = step-next k {n = 2} l (omega arith) (e ∙ ap (λ (y : ℕ). y % m) (sym (inner-more h p k 0 1 ∙ ap (λ (y : ℕ). y + coef h 1 * coef p (k - 1)) first)))
+    where
+      first : inner h p k 0 1 ≡ coef h 0 * coef p k
+      first = inner-more h p k 0 0 ∙ rw (inner-none h p k 0, N.sub-zero k) (N.zero-add _)
 
   -- nothing above x^d
   pub step-past : (k : ℕ) → d < k → step k ≡ 0

@@ -1,4 +1,7 @@
 // The composition g(h) by Horner's rule: g's coefficients from the top, each added to h times what there is so far.
+//
+//   compose     for any g and h
+//   on_line     for a line h, which takes two products a place
 ghost use mathlib.Core.Path.{_≡_};
 ghost use mathlib.Core.List.{[], _∷_};
 ghost use Rattle.algebra.specs.Number.{Modulus};
@@ -32,6 +35,35 @@ pub fn compose(g: &[u32], h: &[u32], r: usize, s: usize, m: u64) -> Coefficients
         i -= 1;
         p = step(g[i], h, &p, s, d, m);
         d += s;
+    }
+    p
+}
+
+// One step for a line h: two products a place, and no loop over h.
+fn line_step(c: u32, h: &[u32], p: &[u32], d: usize, m: u64) -> Coefficients
+    requires { ⌜ Modulus m × Room 1 d (now h) (now p) ⌝ }
+    ensures { λ q. ⌜ q ≡ reduced m (plus (c ∷ []) (times (now (h .entry)) (now (p .entry)))) ⌝ }
+{
+    let mut q = [0; TERMS];
+    q[0] = residue::two_products(h[0], p[0], c, 1, m);
+    for k in 1..d + 1 {
+        q[k] = residue::two_products(h[0], p[k], h[1], p[k - 1], m);
+    }
+    q
+}
+
+// g(h) for a line h, which is what every change asks: the same rule.
+pub fn on_line(g: &[u32], h: &[u32], r: usize, m: u64) -> Coefficients
+    requires { ⌜ Modulus m × Composable r 1 (now g) (now h) ⌝ }
+    ensures { λ f. ⌜ f ≡ composition m (now (g .entry)) (now (h .entry)) ⌝ }
+{
+    let mut p = [0; TERMS];
+    let mut i = r + 1;
+    let mut d = 0;
+    while i != 0 {
+        i -= 1;
+        p = line_step(g[i], h, &p, d, m);
+        d += 1;
     }
     p
 }
