@@ -1,38 +1,42 @@
 //! What is asked of an operation: a modulus and one or two polynomials, right
 //! or wrong. Nothing here is checked but by `refusals_due`.
 
+use crate::modulus::{Modulus, WHOLE_WORDS};
 use crate::polynomial::Polynomial;
 use crate::refused::{Refused, FIRST};
-use crate::residue::TOP_MODULUS;
 use std::fmt;
 
 #[derive(Clone)]
 pub struct Asked {
-    pub m: u32,
+    pub m: Modulus,
     pub polynomials: Vec<Polynomial>,
 }
 
 impl Asked {
     /// A modulus alone.
-    pub fn none(m: u32) -> Asked {
+    pub fn none(m: Modulus) -> Asked {
         Asked {
             m,
             polynomials: Vec::new(),
         }
     }
 
-    pub fn one(m: u32, first: Polynomial) -> Asked {
+    pub fn one(m: Modulus, first: Polynomial) -> Asked {
         Asked {
             m,
             polynomials: vec![first],
         }
     }
 
-    pub fn two(m: u32, first: Polynomial, second: Polynomial) -> Asked {
+    pub fn two(m: Modulus, first: Polynomial, second: Polynomial) -> Asked {
         Asked {
             m,
             polynomials: vec![first, second],
         }
+    }
+
+    pub fn at_2_32(&self) -> bool {
+        self.m == WHOLE_WORDS
     }
 
     pub fn first(&self) -> &Polynomial {
@@ -53,7 +57,7 @@ impl Asked {
     /// then 2, 3, 4 for the first (g, or f), then for the second (h)".
     pub fn refusals_due(&self) -> Vec<Refused> {
         let mut due = Vec::new();
-        if self.m < 2 || self.m > TOP_MODULUS {
+        if !self.m.taken() {
             due.push(Refused::plain(1));
         }
         for (which, polynomial) in (FIRST..).zip(&self.polynomials) {

@@ -2,17 +2,18 @@
 //! which inputs are planted, goes by Horner; here neither Horner's scheme nor a
 //! table of powers is used.)
 
+use crate::modulus::Modulus;
 use crate::polynomial::Polynomial;
 use crate::residue::add;
 use crate::series::{power, product};
 
 /// g(h(x)), where the product of the degrees is 126 at most.
-pub fn composed(g: &Polynomial, h: &Polynomial, m: u32) -> Polynomial {
+pub fn composed(g: &Polynomial, h: &Polynomial, m: Modulus) -> Polynomial {
     Polynomial::of(&by_halves(g.used(), h.used(), m))
 }
 
 /// g is cut in two, g = low + x^k·high. Then g(h) = low(h) + h^k·high(h).
-fn by_halves(g: &[u32], h: &[u32], m: u32) -> Vec<u32> {
+fn by_halves(g: &[u32], h: &[u32], m: Modulus) -> Vec<u32> {
     if g.len() < 2 {
         return g.to_vec();
     }
@@ -30,7 +31,7 @@ fn by_halves(g: &[u32], h: &[u32], m: u32) -> Vec<u32> {
 /// The parts of a chain composed, left to right, where the product of all the
 /// degrees is 126 at most. Composing is associative: the left half of the parts
 /// is composed, and the right half, and then the two.
-pub fn chain_composed(parts: &[Polynomial], m: u32) -> Polynomial {
+pub fn chain_composed(parts: &[Polynomial], m: Modulus) -> Polynomial {
     match parts {
         [] => panic!("a chain has a part"),
         [whole] => whole.clone(),

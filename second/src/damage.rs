@@ -4,10 +4,11 @@
 use crate::asked::Asked;
 use crate::change::Change;
 use crate::inputs::{self, LOOK_SMALL};
+use crate::modulus::{Modulus, TOP_WORD};
 use crate::polynomial::{Polynomial, TOP_DEGREE};
 use crate::random::Random;
 use crate::refused::{Refused, FIRST};
-use crate::residue::{multiply, TOP_MODULUS};
+use crate::residue::multiply;
 
 /// How often the first inputs go through all lines and all pairs of lines:
 /// chance may spoil a combination, hardly eight times.
@@ -93,27 +94,27 @@ fn lower_degree(f: &mut Polynomial, random: &mut Random) {
 }
 
 /// For No. 4: another leading coefficient, below m wherever m leaves room.
-fn spoil_leading(f: &mut Polynomial, m: u32, random: &mut Random) {
+fn spoil_leading(f: &mut Polynomial, m: Modulus, random: &mut Random) {
     let Some(n) = f.degree() else { return };
     let wanted = match random.below(4) {
         0 => 2,
-        1 => m - 1,
+        1 => m.largest_below(),
         2 => random.pick(&LOOK_SMALL),
         _ => inputs::residue(random, m),
     };
-    let fits = wanted > 1 && wanted < m;
+    let fits = wanted > 1 && m.is_above(wanted);
     f.0[n] = if fits { wanted } else { 2 };
 }
 
 /// For No. 1.
-pub fn spoiled_modulus(random: &mut Random) -> u32 {
-    let above = TOP_MODULUS + 1;
+pub fn spoiled_modulus(random: &mut Random) -> Modulus {
+    let above = TOP_WORD + 1;
     let any_above = above + random.below(u64::from(above)) as u32;
-    random.pick(&[0, 1, above, above + 1, u32::MAX, any_above])
+    Modulus::of_word(random.pick(&[1, above, above + 1, u32::MAX, any_above]))
 }
 
 /// For No. 2: one to four coefficients, so that it matters which is lowest.
-fn spoil_coefficients(f: &mut Polynomial, m: u32, random: &mut Random) {
+fn spoil_coefficients(f: &mut Polynomial, m: Modulus, random: &mut Random) {
     let n = f.degree().unwrap_or(0);
     for _ in 0..random.between(1, 4) {
         let power = offending_power(n, random);
@@ -134,18 +135,17 @@ fn offending_power(n: usize, random: &mut Random) -> usize {
     }
 }
 
-/// m or more; for a modulus of 0 that is any value.
-fn offending_value(m: u32, random: &mut Random) -> u32 {
-    let any = u64::from(m) + random.below((1 << 32) - u64::from(m));
-    random.pick(&[m, m.saturating_add(1), u32::MAX, any as u32])
+/// m or more. No word is 2^32 or more: the largest stands there, and is to be
+/// taken.
+fn offending_value(m: Modulus, random: &mut Random) -> u32 {
+    let least = u32::try_from(m.number()).unwrap_or(u32::MAX);
+    let any = random.below(u64::from(u32::MAX - least) + 1) as u32;
+    random.pick(&[least, least.saturating_add(1), u32::MAX, least + any])
 }
 
-/// For No. 8, whatever m is: a or b too large, or a without an inverse; a is 0
-/// where no other is known.
-pub fn spoiled_change(m: u32, random: &mut Random) -> Change {
-    if m < 2 {
-        return [random.below(3) as u32, random.below(3) as u32];
-    }
+/// For No. 8: a or b too large, or a without an inverse; a is 0 where no other
+/// is known.
+pub fn spoiled_change(m: Modulus, random: &mut Random) -> Change {
     let [a, b] = inputs::change(random, m);
     match random.below(4) {
         0 => [a, offending_value(m, random)],
@@ -155,7 +155,7 @@ pub fn spoiled_change(m: u32, random: &mut Random) -> Change {
     }
 }
 
-fn without_inverse(m: u32, random: &mut Random) -> u32 {
+fn without_inverse(m: Modulus, random: &mut Random) -> u32 {
     match inputs::factor(m, random) {
         Some(p) => multiply(p, inputs::residue(random, m), m),
         None => 0,

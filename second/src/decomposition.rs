@@ -3,6 +3,7 @@
 //! polynomial. Every polynomial here is taken, that is not refused by 1 to 4.
 
 use crate::division::divide;
+use crate::modulus::Modulus;
 use crate::polynomial::Polynomial;
 use crate::series::root;
 
@@ -15,7 +16,7 @@ pub type Pair = (Polynomial, Polynomial);
 /// f is written to the base h: f = d_0 + h·(d_1 + h·(d_2 + ..)), each d of a
 /// lower degree than h. There is one way only to write it so, and f is some
 /// g(h) exactly if every d is a constant: then the d are the coefficients of g.
-pub fn left_part(f: &Polynomial, h: &Polynomial, m: u32) -> Option<Polynomial> {
+pub fn left_part(f: &Polynomial, h: &Polynomial, m: Modulus) -> Option<Polynomial> {
     let mut g = Polynomial::ZERO;
     let mut rest = f.used().to_vec();
     let mut place = 0;
@@ -43,7 +44,7 @@ pub fn part_degrees(n: usize) -> impl Iterator<Item = usize> {
 /// the next power of h in g has degree n - s. Read backwards, from the highest
 /// coefficient on, f and h are series that begin with 1, and so the first s
 /// coefficients of h are those of the r-th root of f.
-fn right_part(f: &Polynomial, r: usize, s: usize, m: u32) -> Polynomial {
+fn right_part(f: &Polynomial, r: usize, s: usize, m: Modulus) -> Polynomial {
     let backwards: Vec<u32> = f.used().iter().rev().copied().collect();
     let mut h = Polynomial::ZERO;
     for (k, &c) in root(&backwards, r, s, m).iter().enumerate() {
@@ -54,7 +55,7 @@ fn right_part(f: &Polynomial, r: usize, s: usize, m: u32) -> Polynomial {
 
 /// The normal pair of f at r, if there is one; r divides the degree of f and
 /// has an inverse modulo m.
-pub fn pair(f: &Polynomial, r: usize, m: u32) -> Option<Pair> {
+pub fn pair(f: &Polynomial, r: usize, m: Modulus) -> Option<Pair> {
     let n = f.degree().expect("f is taken");
     let h = right_part(f, r, n / r, m);
     let g = left_part(f, &h, m)?;

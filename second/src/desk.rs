@@ -8,6 +8,7 @@
 use crate::answer::{Chained, Changed, Checked, One, Place, SheetRead, Two, Written};
 use crate::change::Change;
 use crate::lent::{garbage, Given, Lent, LentArea};
+use crate::modulus::Modulus;
 use crate::polynomial::{Polynomial, PLACES};
 use crate::random::Random;
 use crate::refused::Refused;
@@ -149,12 +150,17 @@ pub fn check(bytes: &[u8], random: &mut Random) -> Result<Checked, String> {
 }
 
 /// g after h.
-pub fn compose(m: u32, g: &Polynomial, h: &Polynomial, random: &mut Random) -> Result<One, String> {
+pub fn compose(
+    m: Modulus,
+    g: &Polynomial,
+    h: &Polynomial,
+    random: &mut Random,
+) -> Result<One, String> {
     let mut g = GivenPolynomial::new(g, random);
     let mut h = GivenPolynomial::new(h, random);
     let mut f = lent_words(random);
     // SAFETY: as said above of all calls.
-    let refused = unsafe { desk_compose(m, g.pointer(), h.pointer(), f.pointer()) };
+    let refused = unsafe { desk_compose(m.word(), g.pointer(), h.pointer(), f.pointer()) };
     g.give_back("the given g")?;
     h.give_back("the given h")?;
     let polynomial = Polynomial(f.give_back("the composed f")?);
@@ -166,7 +172,7 @@ pub fn compose(m: u32, g: &Polynomial, h: &Polynomial, random: &mut Random) -> R
 
 /// The g with f = g(h).
 pub fn left_part(
-    m: u32,
+    m: Modulus,
     f: &Polynomial,
     h: &Polynomial,
     random: &mut Random,
@@ -175,7 +181,7 @@ pub fn left_part(
     let mut h = GivenPolynomial::new(h, random);
     let mut g = lent_words(random);
     // SAFETY: as said above of all calls.
-    let refused = unsafe { desk_left_part(m, f.pointer(), h.pointer(), g.pointer()) };
+    let refused = unsafe { desk_left_part(m.word(), f.pointer(), h.pointer(), g.pointer()) };
     f.give_back("the given f")?;
     h.give_back("the given h")?;
     let polynomial = Polynomial(g.give_back("the left part g")?);
@@ -186,12 +192,12 @@ pub fn left_part(
 }
 
 /// The normal pair of f at r.
-pub fn split(m: u32, f: &Polynomial, r: usize, random: &mut Random) -> Result<Two, String> {
+pub fn split(m: Modulus, f: &Polynomial, r: usize, random: &mut Random) -> Result<Two, String> {
     let mut f = GivenPolynomial::new(f, random);
     let mut g = lent_words(random);
     let mut h = lent_words(random);
     // SAFETY: as said above of all calls.
-    let refused = unsafe { desk_split(m, f.pointer(), r, g.pointer(), h.pointer()) };
+    let refused = unsafe { desk_split(m.word(), f.pointer(), r, g.pointer(), h.pointer()) };
     f.give_back("the given f")?;
     Ok(Two {
         refused,
@@ -202,7 +208,7 @@ pub fn split(m: u32, f: &Polynomial, r: usize, random: &mut Random) -> Result<Tw
 
 /// f changed by (a, b).
 pub fn change_polynomial(
-    m: u32,
+    m: Modulus,
     f: &Polynomial,
     [a, b]: Change,
     random: &mut Random,
@@ -210,7 +216,7 @@ pub fn change_polynomial(
     let mut f = GivenPolynomial::new(f, random);
     let mut out = lent_words(random);
     // SAFETY: as said above of all calls.
-    let refused = unsafe { desk_change_polynomial(m, f.pointer(), a, b, out.pointer()) };
+    let refused = unsafe { desk_change_polynomial(m.word(), f.pointer(), a, b, out.pointer()) };
     f.give_back("the given f")?;
     let polynomial = Polynomial(out.give_back("the changed f")?);
     Ok(One {
@@ -221,7 +227,7 @@ pub fn change_polynomial(
 
 /// g and h changed by (a, b).
 pub fn change_pair(
-    m: u32,
+    m: Modulus,
     g: &Polynomial,
     h: &Polynomial,
     [a, b]: Change,
@@ -234,7 +240,7 @@ pub fn change_pair(
     // SAFETY: as said above of all calls.
     let refused = unsafe {
         desk_change_pair(
-            m,
+            m.word(),
             g.pointer(),
             h.pointer(),
             a,
@@ -254,36 +260,41 @@ pub fn change_pair(
 
 /// First (a, b), then (a2, b2), as one change.
 pub fn combine(
-    m: u32,
+    m: Modulus,
     [a, b]: Change,
     [a2, b2]: Change,
     random: &mut Random,
 ) -> Result<Changed, String> {
     let mut out = lent_words(random);
     // SAFETY: as said above of all calls.
-    let refused = unsafe { desk_combine(m, a, b, a2, b2, out.pointer()) };
+    let refused = unsafe { desk_combine(m.word(), a, b, a2, b2, out.pointer()) };
     let change = out.give_back("the combined change")?;
     Ok(Changed { refused, change })
 }
 
 /// The change that takes (a, b) back.
-pub fn undo(m: u32, [a, b]: Change, random: &mut Random) -> Result<Changed, String> {
+pub fn undo(m: Modulus, [a, b]: Change, random: &mut Random) -> Result<Changed, String> {
     let mut out = lent_words(random);
     // SAFETY: as said above of all calls.
-    let refused = unsafe { desk_undo(m, a, b, out.pointer()) };
+    let refused = unsafe { desk_undo(m.word(), a, b, out.pointer()) };
     let change = out.give_back("the undoing change")?;
     Ok(Changed { refused, change })
 }
 
 /// The complete chain of f, in a copy of `area` as it stands.
-pub fn chain(m: u32, f: &Polynomial, area: &[u32], random: &mut Random) -> Result<Chained, String> {
+pub fn chain(
+    m: Modulus,
+    f: &Polynomial,
+    area: &[u32],
+    random: &mut Random,
+) -> Result<Chained, String> {
     let mut f = GivenPolynomial::new(f, random);
     let mut area = LentArea::words(area, random);
     let mut numbers = lent_counts::<3>(random);
     // SAFETY: as said above of all calls.
     let refused = unsafe {
         desk_chain(
-            m,
+            m.word(),
             f.pointer(),
             area.pointer(),
             area.count(),
@@ -314,7 +325,7 @@ pub fn part(area: &[u32], i: usize, random: &mut Random) -> Result<Place, String
 
 /// The sheet of an area's chain, in a copy of `sheet` as it stands.
 pub fn write_sheet(
-    m: u32,
+    m: Modulus,
     area: &[u32],
     sheet: &[u8],
     random: &mut Random,
@@ -324,7 +335,7 @@ pub fn write_sheet(
     // SAFETY: as said above of all calls.
     let refused = unsafe {
         desk_write_sheet(
-            m,
+            m.word(),
             area.pointer(),
             area.count(),
             sheet.pointer(),

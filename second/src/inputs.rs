@@ -3,12 +3,13 @@
 //! give them.
 
 use crate::change::{self, Change};
+use crate::modulus::{Modulus, TOP_WORD, WHOLE_WORDS};
 use crate::polynomial::{Polynomial, TOP_DEGREE};
 use crate::random::Random;
-use crate::residue::{common_factor, multiply, TOP_MODULUS};
+use crate::residue::{common_factor, multiply};
 
-/// The ends of the range, primes, powers of primes and other composites, and
-/// both sides of the widths of 1, 2 and 3 bytes.
+/// Below 2^32: the ends of the range, primes, powers of primes and other
+/// composites, and both sides of the widths of 1, 2 and 3 bytes.
 const MODULI: [u32; 40] = [
     2,
     3,
@@ -53,12 +54,12 @@ const MODULI: [u32; 40] = [
     2_147_117_569,
     // The largest primes.
     2_147_483_629,
-    TOP_MODULUS - 1,
-    TOP_MODULUS,
+    TOP_WORD - 1,
+    TOP_WORD,
 ];
 
-/// Some of these divide every modulus above that is not prime.
-const FACTORS: [u32; 11] = [2, 3, 5, 7, 11, 13, 17, 19, 23, 46_327, 46_337];
+/// Some of these divide every modulus above that is not prime, and 2^32.
+const FACTORS: [u32; 12] = [2, 3, 5, 7, 11, 13, 17, 19, 23, 46_327, 46_337, 65_536];
 
 /// Numbers that look like 0 or 1 when only some of their bytes are looked at.
 pub const LOOK_SMALL: [u32; 7] = [
@@ -70,6 +71,9 @@ pub const LOOK_SMALL: [u32; 7] = [
     16_777_217,
     0x4000_0001,
 ];
+
+/// Where a word with a sign turns from the largest number to the smallest.
+const LOOK_NEGATIVE: [u32; 3] = [0x7FFF_FFFF, 0x8000_0000, 0x8000_0001];
 
 const DEGREES: [usize; 10] = [2, 3, 4, 6, 12, 62, 63, 64, 125, TOP_DEGREE];
 
@@ -83,46 +87,61 @@ pub fn choose(combination: &mut u64, of: u64) -> u64 {
 
 // Moduli.
 
+/// Any m; once in seven it is 2^32.
+pub fn modulus(random: &mut Random) -> Modulus {
+    match random.once_in(7) {
+        true => WHOLE_WORDS,
+        false => Modulus::of_word(word(random)),
+    }
+}
+
 /// m from 2 to 2,147,483,647.
-pub fn modulus(random: &mut Random) -> u32 {
+fn word(random: &mut Random) -> u32 {
     match random.below(3) {
         0 => random.pick(&MODULI),
-        1 => small_modulus(random),
-        _ => 2 + random.below(u64::from(TOP_MODULUS) - 1) as u32,
+        1 => small_word(random),
+        _ => 2 + random.below(u64::from(TOP_WORD) - 1) as u32,
     }
 }
 
 /// Every width in bits is as likely as every other.
-fn small_modulus(random: &mut Random) -> u32 {
+fn small_word(random: &mut Random) -> u32 {
     let bits = random.between(2, 31);
     let any = random.below(1 << bits) as u32;
-    any.clamp(2, TOP_MODULUS)
+    any.clamp(2, TOP_WORD)
 }
 
-/// m that shares no factor above 1 with the number, which is not 0.
-pub fn modulus_without(number: usize, random: &mut Random) -> u32 {
+/// m that shares no factor above 1 with the number, which is not 0. For an odd
+/// one it is often 2^32, since for an even one it cannot be.
+pub fn modulus_without(number: usize, random: &mut Random) -> Modulus {
+    if !number.is_multiple_of(2) && random.once_in(3) {
+        return WHOLE_WORDS;
+    }
     loop {
-        let mut m = u64::from(modulus(random));
+        let mut m = u64::from(word(random));
         // What is shared is divided out, so that composites stay composite.
         while common_factor(m, number as u64) > 1 {
             m /= common_factor(m, number as u64);
         }
         if m >= 2 {
-            return m as u32;
+            return Modulus::of_word(m as u32);
         }
     }
 }
 
 /// m that shares a factor above 1 with the number, which is at least 2.
-pub fn modulus_sharing(number: usize, random: &mut Random) -> u32 {
+pub fn modulus_sharing(number: usize, random: &mut Random) -> Modulus {
+    if number.is_multiple_of(2) && random.once_in(6) {
+        return WHOLE_WORDS;
+    }
     let divides = |d: &usize| number.is_multiple_of(*d);
     let divisors: Vec<usize> = (2..=number).filter(divides).collect();
     let shared = random.pick(&divisors) as u32;
-    match random.below(4) {
+    Modulus::of_word(match random.below(4) {
         0 => shared,
         1 => shared * shared,
-        _ => shared * (modulus(random) / shared).max(1),
-    }
+        _ => shared * (word(random) / shared).max(1),
+    })
 }
 
 /// What kind of number a modulus is.
@@ -131,7 +150,8 @@ pub const PRIME_POWER: &str = "m a prime power";
 pub const SEVERAL_PRIMES: &str = "m of several primes";
 
 /// By trial; only for moduli of two bytes, so that it costs little.
-pub fn kind_of_modulus(m: u32) -> Option<&'static str> {
+pub fn kind_of_modulus(m: Modulus) -> Option<&'static str> {
+    let m = m.number();
     if m > 65_535 {
         return None;
     }
@@ -148,8 +168,8 @@ pub fn kind_of_modulus(m: u32) -> Option<&'static str> {
 }
 
 /// A factor of m that is neither 1 nor m, where one is known.
-pub fn factor(m: u32, random: &mut Random) -> Option<u32> {
-    let fits = |p: &&u32| **p < m && m.is_multiple_of(**p);
+pub fn factor(m: Modulus, random: &mut Random) -> Option<u32> {
+    let fits = |p: &&u32| m.is_above(**p) && m.number().is_multiple_of(u64::from(**p));
     let known: Vec<u32> = FACTORS.iter().filter(fits).copied().collect();
     (!known.is_empty()).then(|| random.pick(&known))
 }
@@ -157,17 +177,18 @@ pub fn factor(m: u32, random: &mut Random) -> Option<u32> {
 // Coefficients and polynomials.
 
 /// A coefficient from 0 to m - 1.
-pub fn residue(random: &mut Random, m: u32) -> u32 {
+pub fn residue(random: &mut Random, m: Modulus) -> u32 {
     let edge = match random.below(8) {
-        0 => 1,
-        1 => m - 1,
-        2 => random.pick(&LOOK_SMALL),
-        _ => m,
+        0 => Some(1),
+        1 => Some(m.largest_below()),
+        2 => Some(random.pick(&LOOK_SMALL)),
+        3 => Some(random.pick(&LOOK_NEGATIVE)),
+        _ => None,
     };
-    if edge < m {
-        return edge;
+    match edge.filter(|&edge| m.is_above(edge)) {
+        Some(edge) => edge,
+        None => random.below(m.number()) as u32,
     }
-    random.below(u64::from(m)) as u32
 }
 
 /// n from 2 to 126.
@@ -201,7 +222,7 @@ pub fn two_degrees(random: &mut Random) -> (usize, usize) {
 /// zero differs from polynomial to polynomial: from none to nearly all. Where
 /// m is composite, all but the leading one may share a factor with it, so that
 /// products of them vanish.
-pub fn monic(random: &mut Random, degree: usize, m: u32) -> Polynomial {
+pub fn monic(random: &mut Random, degree: usize, m: Modulus) -> Polynomial {
     let mut f = Polynomial::ZERO;
     let eighths_not_zero = 1 + random.below(8);
     let common = match random.below(6) {
@@ -218,7 +239,7 @@ pub fn monic(random: &mut Random, degree: usize, m: u32) -> Polynomial {
 }
 
 /// g(h(x)) for two monic polynomials: the kind of f that splits.
-fn composed(random: &mut Random, m: u32) -> Polynomial {
+fn composed(random: &mut Random, m: Modulus) -> Polynomial {
     let (r, s) = two_degrees(random);
     let g = monic(random, r, m);
     let h = monic(random, s, m);
@@ -226,7 +247,7 @@ fn composed(random: &mut Random, m: u32) -> Polynomial {
 }
 
 /// Any polynomial that is not refused by 2, 3 or 4.
-pub fn polynomial(random: &mut Random, m: u32) -> Polynomial {
+pub fn polynomial(random: &mut Random, m: Modulus) -> Polynomial {
     if random.once_in(8) {
         return composed(random, m);
     }
@@ -237,7 +258,7 @@ pub fn polynomial(random: &mut Random, m: u32) -> Polynomial {
 // Changes.
 
 /// A change that is not refused by 8: a has an inverse.
-pub fn change(random: &mut Random, m: u32) -> Change {
+pub fn change(random: &mut Random, m: Modulus) -> Change {
     let b = match random.below(4) {
         0 => 0,
         _ => residue(random, m),

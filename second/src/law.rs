@@ -31,6 +31,8 @@ pub trait Law {
     fn input(index: u64, random: &mut Random) -> Self::Input;
     fn one_way(input: &Self::Input, random: &mut Random) -> Result<Self::Answer, String>;
     fn other_way(input: &Self::Input, random: &mut Random) -> Result<Self::Answer, String>;
+    /// Whether the modulus is 2^32.
+    fn at_2_32(input: &Self::Input) -> bool;
     /// Which of the wanted kinds this is.
     fn kinds(input: &Self::Input, answer: &Self::Answer) -> Vec<&'static str>;
     fn show(input: &Self::Input) -> String;
@@ -68,6 +70,7 @@ fn one_input<L: Law>(seed: u64, index: u64, tally: &mut Tally) -> Result<(), Str
     let one = L::one_way(&input, &mut random).map_err(|what| at.difference(&what))?;
     let other = L::other_way(&input, &mut random);
     agree(&at, By(L::ONE_WAY, &one), By(L::OTHER_WAY, other))?;
-    tally.count(one.refused(), &[], &L::kinds(&input, &one));
+    let kinds = L::kinds(&input, &one);
+    tally.count(one.refused(), &[], &kinds, L::at_2_32(&input));
     Ok(())
 }

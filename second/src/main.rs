@@ -40,6 +40,7 @@ mod inputs;
 mod law;
 mod lent;
 mod listing;
+mod modulus;
 mod operation;
 mod polynomial;
 mod progress;
@@ -138,12 +139,14 @@ fn whole_runs<P: Program>(
     progress: &mut Progress,
 ) -> Result<u64, String> {
     let Some(program) = program else { return Ok(0) };
-    let records = runs::compare::<P>(program, seed, progress)?;
+    let met = runs::compare::<P>(program, seed, progress)?;
     println!(
-        "{}: {records} records given to {program}, no difference",
-        P::NAME
+        "{}: {} records, {} of them at 2^32, given to {program}, no difference",
+        P::NAME,
+        met.records,
+        met.at_2_32
     );
-    Ok(records)
+    Ok(met.records)
 }
 
 struct Wanted {

@@ -95,6 +95,10 @@ pub trait Operation {
     fn own(input: &Self::Input) -> Own<Self::Answer>;
     /// The desk's answer; an error is about memory it had no right to write.
     fn desk(input: &Self::Input, random: &mut Random) -> Result<Self::Answer, String>;
+    /// Whether the modulus is 2^32, or one of the moduli.
+    fn at_2_32(_input: &Self::Input) -> bool {
+        false
+    }
     /// Which of the wanted kinds this is.
     fn kinds(_input: &Self::Input, _answer: &Self::Answer) -> Vec<&'static str> {
         Vec::new()
@@ -166,6 +170,6 @@ fn one_input<O: Operation>(seed: u64, index: u64, tally: &mut Tally) -> Result<(
     agree(&at, By("own", &own.answer), By("desk", desk))?;
     let kinds = O::kinds(&input, &own.answer);
     let given = own.due.first().copied().unwrap_or(Refused::ANSWERED);
-    tally.count(given, &own.due, &kinds);
+    tally.count(given, &own.due, &kinds, O::at_2_32(&input));
     Ok(())
 }

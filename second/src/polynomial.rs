@@ -1,5 +1,6 @@
 //! A polynomial is 127 coefficients, constant term first.
 
+use crate::modulus::Modulus;
 use crate::refused::Refused;
 use crate::residue::add;
 use crate::series::product;
@@ -30,9 +31,9 @@ impl Polynomial {
     /// Every line of the refusal table among 2, 3 and 4 that is true of this
     /// polynomial, in 01's order. The first one is the refusal given; the rest
     /// show that an input also tests the order.
-    pub fn refusals_due(&self, m: u32, which: u32) -> Vec<Refused> {
+    pub fn refusals_due(&self, m: Modulus, which: u32) -> Vec<Refused> {
         let mut due = Vec::new();
-        if let Some(power) = self.0.iter().position(|&c| c >= m) {
+        if let Some(power) = self.0.iter().position(|&c| !m.is_above(c)) {
             due.push(Refused::coefficient(which, power as u32));
         }
         let degree = self.degree();
@@ -47,7 +48,7 @@ impl Polynomial {
 
     /// self(inner(x)) modulo m by Horner, or nothing when the product of the
     /// degrees is above 126. Both have a degree and are reduced modulo m.
-    pub fn compose(&self, inner: &Polynomial, m: u32) -> Option<Polynomial> {
+    pub fn compose(&self, inner: &Polynomial, m: Modulus) -> Option<Polynomial> {
         let (r, s) = (self.degree()?, inner.degree()?);
         if r * s > TOP_DEGREE {
             return None;
@@ -61,7 +62,7 @@ impl Polynomial {
     }
 
     /// The product modulo m; its degree has to be 126 at most.
-    fn times(&self, other: &Polynomial, m: u32) -> Polynomial {
+    fn times(&self, other: &Polynomial, m: Modulus) -> Polynomial {
         let (Some(n), Some(k)) = (self.degree(), other.degree()) else {
             return Polynomial::ZERO;
         };

@@ -1,6 +1,7 @@
 //! A record: 512 bytes, 128 words of 4 bytes, low byte first. Word 0 is m and
 //! word 1 + i the coefficient of x^i.
 
+use crate::modulus::Modulus;
 use crate::polynomial::{Polynomial, PLACES};
 use std::fmt;
 
@@ -9,7 +10,7 @@ pub const RECORD_BYTES: usize = 512;
 /// What a record says, right or wrong: nothing here is checked.
 #[derive(Clone)]
 pub struct Record {
-    pub modulus: u32,
+    pub modulus: Modulus,
     pub f: Polynomial,
 }
 
@@ -27,7 +28,7 @@ impl Record {
             f.0[power] = word_at(bytes, 1 + power);
         }
         Record {
-            modulus: word_at(bytes, 0),
+            modulus: Modulus::of_word(word_at(bytes, 0)),
             f,
         }
     }
@@ -42,7 +43,7 @@ impl Record {
     }
 
     pub fn bytes(&self) -> Vec<u8> {
-        let mut words = vec![self.modulus];
+        let mut words = vec![self.modulus.word()];
         words.extend(self.f.0);
         let weights = [0, 8, 16, 24];
         let low_first = |word: u32| weights.map(|shift| (word >> shift) as u8);

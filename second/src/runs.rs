@@ -3,6 +3,7 @@
 
 use crate::answer::{Chained, AREA_WORDS};
 use crate::asked::Asked;
+use crate::modulus::{Modulus, WHOLE_WORDS};
 use crate::operation::chain::{Chain, ChainIn};
 use crate::operation::check::Check;
 use crate::operation::Operation;
@@ -30,32 +31,65 @@ pub trait Program {
 /// Above what one read of the program takes, so that records straddle reads.
 const MOST_RECORDS: usize = 700;
 const SHORT: u32 = 9;
-/// What has to be met: an answer and each refusal that a record can get.
+/// What has to be met: an answer and each refusal that a record can get, and
+/// those that it can get at 2^32.
 const NUMBERS: [u32; 7] = [0, 1, 2, 3, 4, 5, SHORT];
+const NUMBERS_AT_2_32: [u32; 4] = [0, 3, 4, 5];
 
-/// Gives the number of records.
+/// The records that were gone through, and the numbers that they got.
+#[derive(Default)]
+pub struct Met {
+    pub records: u64,
+    pub at_2_32: u64,
+    numbers: BTreeSet<u32>,
+    numbers_at_2_32: BTreeSet<u32>,
+}
+
+impl Met {
+    fn count(&mut self, modulus: Modulus, number: u32) {
+        self.records += 1;
+        self.numbers.insert(number);
+        if modulus == WHOLE_WORDS {
+            self.at_2_32 += 1;
+            self.numbers_at_2_32.insert(number);
+        }
+    }
+
+    /// An error is about what was not met and had to be.
+    fn conclude(&self) -> Result<(), String> {
+        let missing = |wanted: &[u32], met: &BTreeSet<u32>| -> Vec<u32> {
+            let not_met = |number: &u32| !met.contains(number);
+            wanted.iter().copied().filter(not_met).collect()
+        };
+        let anywhere = missing(&NUMBERS, &self.numbers);
+        let at_2_32 = missing(&NUMBERS_AT_2_32, &self.numbers_at_2_32);
+        match anywhere.is_empty() && at_2_32.is_empty() {
+            true => Ok(()),
+            false => Err(format!(
+                "never met the numbers {anywhere:?}, and {at_2_32:?} at 2^32"
+            )),
+        }
+    }
+}
+
 pub fn compare<P: Program>(
     program: &str,
     seed: u64,
     progress: &mut Progress,
-) -> Result<u64, String> {
-    let mut met = BTreeSet::new();
-    let mut records = 0;
+) -> Result<Met, String> {
+    let mut met = Met::default();
     progress.begin(P::NAME, P::FILES);
     for index in 0..P::FILES {
         let file = file(index, &mut Random::for_input(seed, P::NAME, index));
-        records += file.chunks(RECORD_BYTES).len() as u64;
         let own = own::<P>(&file, &mut met);
         let written = written(program, file).map_err(|what| format!("{program}: {what}"))?;
         agree::<P>(&own, &written).map_err(|what| difference::<P>(seed, index, &what))?;
         progress.show(index + 1);
     }
     progress.end();
-    let missing: Vec<_> = NUMBERS.iter().filter(|n| !met.contains(n)).collect();
-    if !missing.is_empty() {
-        return Err(format!("{}: never met the numbers {missing:?}", P::NAME));
-    }
-    Ok(records)
+    met.conclude()
+        .map_err(|what| format!("{}: {what}", P::NAME))?;
+    Ok(met)
 }
 
 fn difference<P: Program>(seed: u64, index: u64, what: &str) -> String {
@@ -99,12 +133,12 @@ fn record(random: &mut Random) -> Vec<u8> {
 
 // The own output.
 
-fn own<P: Program>(file: &[u8], met: &mut BTreeSet<u32>) -> Vec<u8> {
+fn own<P: Program>(file: &[u8], met: &mut Met) -> Vec<u8> {
     let mut output = Vec::new();
     for (number, bytes) in (1..).zip(file.chunks(RECORD_BYTES)) {
         let record = Record::read_padded(bytes);
         let answer = chain_of(bytes.len(), &record);
-        met.insert(answer.refused.number);
+        met.count(record.modulus, answer.refused.number);
         output.extend(P::own(number, &record, &answer));
     }
     output

@@ -5,10 +5,12 @@
 
 use crate::change;
 use crate::inputs;
+use crate::modulus::Modulus;
 use crate::polynomial::{Polynomial, TOP_DEGREE};
 use crate::random::Random;
-use crate::residue::{add, multiply, subtract};
+use crate::residue::{add, multiply, reduced, subtract};
 use crate::series::power;
+use std::iter;
 
 pub enum Shape {
     /// Nothing is planted.
@@ -29,7 +31,7 @@ pub enum Shape {
 impl Shape {
     /// Any shape at all.
     pub fn random(random: &mut Random) -> Shape {
-        match random.below(16) {
+        match random.below(20) {
             0 => Shape::Any(random.pick(&PRIME_DEGREES)),
             1 => Shape::Any(inputs::degree(random)),
             2 => Shape::Power(composite_degree(random)),
@@ -38,7 +40,8 @@ impl Shape {
             // It splits at half its degree only.
             5..=6 => Shape::Planted(vec![2, random.between(3, TOP_DEGREE / 2)]),
             7..=9 => pair(random),
-            _ => chain(random),
+            10..=15 => chain(random),
+            _ => odd(random),
         }
     }
 
@@ -51,7 +54,7 @@ impl Shape {
     }
 
     /// A polynomial of this shape modulo m.
-    pub fn polynomial(&self, m: u32, random: &mut Random) -> Polynomial {
+    pub fn polynomial(&self, m: Modulus, random: &mut Random) -> Polynomial {
         match self {
             Shape::Any(n) => inputs::monic(random, *n, m),
             Shape::Planted(degrees) => planted(degrees, m, random),
@@ -94,21 +97,48 @@ fn chain(random: &mut Random) -> Shape {
     Shape::Planted(chain_degrees(count, random))
 }
 
+/// Of an odd degree, which few others have: at 2^32 there is no other chain.
+fn odd(random: &mut Random) -> Shape {
+    let count = random.between(2, 4);
+    let degrees = odd_degrees(count, random);
+    let n = degrees.iter().product();
+    let is_odd = |shape: &Shape| !shape.degree().is_multiple_of(2);
+    match random.below(8) {
+        0 => Shape::Any(n),
+        1 => Shape::Power(n),
+        2 => Shape::Chebyshev(n),
+        3 => iter::repeat_with(|| two_orders(random))
+            .find(is_odd)
+            .expect("some of them are odd"),
+        _ => Shape::Planted(degrees),
+    }
+}
+
 /// The degrees of 1 to 6 parts, with a product of 126 at most.
 pub fn chain_degrees(count: usize, random: &mut Random) -> Vec<usize> {
-    let mut degrees = vec![2; count];
+    degrees_from(2, 1, count, random)
+}
+
+/// The same, all of them odd, for 1 to 4 parts.
+fn odd_degrees(count: usize, random: &mut Random) -> Vec<usize> {
+    degrees_from(3, 2, count, random)
+}
+
+/// Each is one of `least`, `least + step`, `least + 2·step` and so on.
+fn degrees_from(least: usize, step: usize, count: usize, random: &mut Random) -> Vec<usize> {
+    let mut degrees = vec![least; count];
     for _ in 0..random.between(0, count) {
         let place = random.between(0, count - 1);
         let others = degrees.iter().product::<usize>() / degrees[place];
         let room = TOP_DEGREE / others;
         // Small degrees leave room for further ones.
         let top = random.pick(&[3, 5, room]).min(room);
-        degrees[place] = random.between(2, top);
+        degrees[place] = least + step * random.between(0, (top - least) / step);
     }
     degrees
 }
 
-fn planted(degrees: &[usize], m: u32, random: &mut Random) -> Polynomial {
+fn planted(degrees: &[usize], m: Modulus, random: &mut Random) -> Polynomial {
     let mut parts = degrees.iter().map(|&n| inputs::monic(random, n, m));
     let leftmost = parts.next().expect("at least one part is planted");
     parts.fold(leftmost, |left, right| {
@@ -124,7 +154,7 @@ pub fn plain_power(n: usize) -> Polynomial {
 }
 
 /// Half the time with another unit and origin: what splits, splits still.
-fn moved(f: Polynomial, m: u32, random: &mut Random) -> Polynomial {
+fn moved(f: Polynomial, m: Modulus, random: &mut Random) -> Polynomial {
     if random.once_in(2) {
         return f;
     }
@@ -135,8 +165,8 @@ fn moved(f: Polynomial, m: u32, random: &mut Random) -> Polynomial {
 /// monic modulo every m: D_0 = 2, D_1 = x, D_k = x·D_(k-1) - e·D_(k-2).
 /// 2^(1-n)·T_n is the one with e = 1/4. They split at every divisor of n
 /// (000, section 2).
-fn chebyshev(n: usize, e: u32, m: u32) -> Polynomial {
-    let mut last = Polynomial::of(&[2 % m]);
+fn chebyshev(n: usize, e: u32, m: Modulus) -> Polynomial {
+    let mut last = Polynomial::of(&[reduced(2, m)]);
     let mut next = plain_power(1);
     for _ in 1..n {
         let mut sum = Polynomial::ZERO;
@@ -151,7 +181,7 @@ fn chebyshev(n: usize, e: u32, m: u32) -> Polynomial {
 
 /// x^d after x^k·p(x^d), which is also x^k·p(x)^d after x^d (Ritt): it splits
 /// at two left degrees, and neither way is a step of the other.
-fn in_two_orders(d: usize, k: usize, p: &Polynomial, m: u32) -> Polynomial {
+fn in_two_orders(d: usize, k: usize, p: &Polynomial, m: Modulus) -> Polynomial {
     let mut inner = Polynomial::ZERO;
     for (i, &c) in p.used().iter().enumerate() {
         inner.0[k + d * i] = c;
@@ -162,13 +192,13 @@ fn in_two_orders(d: usize, k: usize, p: &Polynomial, m: u32) -> Polynomial {
 
 /// One coefficient below the leading one is another: what was planted is most
 /// likely no composition any more, and often by its last coefficients only.
-pub fn nearly(mut f: Polynomial, m: u32, random: &mut Random) -> Polynomial {
+pub fn nearly(mut f: Polynomial, m: Modulus, random: &mut Random) -> Polynomial {
     let n = f.degree().expect("what is planted has a degree");
     let power = match random.below(3) {
         0 => random.between(0, 3.min(n - 1)),
         _ => random.between(0, n - 1),
     };
-    let more = 1 + random.below(u64::from(m) - 1) as u32;
-    f.0[power] = add(f.0[power], more, m);
+    let more = 1 + random.below(m.number() - 1);
+    f.0[power] = add(f.0[power], more as u32, m);
     f
 }

@@ -7,6 +7,7 @@ pub mod kinds;
 
 use crate::answer::{SHEET_BYTES, TOP_PARTS};
 use crate::composition::chain_composed;
+use crate::modulus::{Modulus, WHOLE_WORDS};
 use crate::operation::chain::filled;
 use crate::polynomial::{Polynomial, PLACES, TOP_DEGREE};
 use crate::record::{Record, RECORD_BYTES};
@@ -40,7 +41,7 @@ impl Places {
 
     /// In an area a place is used if any of its 127 words is not zero. Words
     /// that are missing are taken for zeros.
-    pub fn of_area(modulus: u32, area: &[u32]) -> Places {
+    pub fn of_area(modulus: Modulus, area: &[u32]) -> Places {
         let mut places = Places(Default::default());
         for (place, words) in places.0.iter_mut().zip(area.chunks(PLACES)) {
             let f = Polynomial::of(words);
@@ -60,14 +61,25 @@ impl Places {
         self.used().map(|(_, record)| record.f.clone()).collect()
     }
 
-    /// The modulus of the leftmost record; 0 where no place is used.
-    pub fn modulus(&self) -> u32 {
-        self.used().next().map_or(0, |(_, record)| record.modulus)
+    /// The moduli of the records at the used places, left to right.
+    pub fn moduli(&self) -> impl Iterator<Item = Modulus> + use<'_> {
+        self.used().map(|(_, record)| record.modulus)
     }
 
+    /// Whether one of them is 2^32.
+    pub fn at_2_32(&self) -> bool {
+        self.moduli().any(|modulus| modulus == WHOLE_WORDS)
+    }
+
+    /// That of a chain that is taken, which has one.
+    pub fn modulus(&self) -> Modulus {
+        self.moduli().next().expect("a place is used")
+    }
+
+    /// They are compared as words: no two words mean one number.
     pub fn moduli_differ(&self) -> bool {
-        let first = self.modulus();
-        self.used().any(|(_, record)| record.modulus != first)
+        let mut others = self.moduli().skip(1);
+        others.any(|other| other != self.modulus())
     }
 
     /// "The used places are not the first ones, none is used": counted from the

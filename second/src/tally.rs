@@ -1,7 +1,7 @@
 //! How many inputs were compared, and what they were answered or refused with.
 
 use crate::refused::Refused;
-use std::collections::BTreeMap;
+use std::collections::{BTreeMap, BTreeSet};
 
 /// What has to be met by a comparison of many inputs: one that did not meet it
 /// could not have failed on it.
@@ -14,6 +14,9 @@ pub struct Wanted {
     pub apart: &'static [(Refused, Refused)],
     /// Kinds of inputs and answers, in words.
     pub kinds: &'static [&'static str],
+    /// Those of them that have to be met at modulus 2^32 too, and with them
+    /// every number that can be given there; nothing where no input is at 2^32.
+    pub at_2_32: Option<&'static [&'static str]>,
 }
 
 impl Wanted {
@@ -31,6 +34,13 @@ impl Wanted {
         pairs.retain(|pair| !self.apart.contains(pair));
         pairs
     }
+
+    /// All numbers of the lines but 1 and 2, which cannot be given there.
+    fn numbers_at_2_32(&self) -> BTreeSet<u32> {
+        let mut numbers: BTreeSet<u32> = self.lines().iter().map(|line| line.number).collect();
+        numbers.retain(|number| ![1, 2].contains(number));
+        numbers
+    }
 }
 
 #[derive(Default)]
@@ -42,6 +52,37 @@ pub struct Tally {
     /// order before the other. Only on these does the order matter.
     together: BTreeMap<(Refused, Refused), u64>,
     kinds: BTreeMap<&'static str, u64>,
+    at_2_32: At2To32,
+}
+
+/// The inputs at modulus 2^32 alone.
+#[derive(Default)]
+struct At2To32 {
+    inputs: u64,
+    /// By number.
+    given: BTreeMap<u32, u64>,
+    kinds: BTreeMap<&'static str, u64>,
+}
+
+impl At2To32 {
+    fn count(&mut self, given: Refused, kinds: &[&'static str]) {
+        self.inputs += 1;
+        *self.given.entry(given.number).or_default() += 1;
+        for kind in kinds {
+            *self.kinds.entry(kind).or_default() += 1;
+        }
+    }
+
+    /// What is wanted, and how often it was met.
+    fn met(&self, wanted: &Wanted) -> Vec<(String, u64)> {
+        let Some(kinds) = wanted.at_2_32 else {
+            return Vec::new();
+        };
+        let given = |number| (Refused::plain(number).brief(), times(&self.given, &number));
+        let kind = |kind: &&'static str| (kind.to_string(), times(&self.kinds, kind));
+        let numbers = wanted.numbers_at_2_32().into_iter().map(given);
+        numbers.chain(kinds.iter().map(kind)).collect()
+    }
 }
 
 fn times<K: Ord>(counts: &BTreeMap<K, u64>, key: &K) -> u64 {
@@ -49,7 +90,17 @@ fn times<K: Ord>(counts: &BTreeMap<K, u64>, key: &K) -> u64 {
 }
 
 impl Tally {
-    pub fn count(&mut self, given: Refused, due: &[Refused], kinds: &[&'static str]) {
+    /// Of one input; `at_2_32` is whether its modulus is 2^32.
+    pub fn count(
+        &mut self,
+        given: Refused,
+        due: &[Refused],
+        kinds: &[&'static str],
+        at_2_32: bool,
+    ) {
+        if at_2_32 {
+            self.at_2_32.count(given, kinds);
+        }
         self.inputs += 1;
         *self.given.entry(given.line()).or_default() += 1;
         for (i, first) in due.iter().enumerate() {
@@ -72,10 +123,13 @@ impl Tally {
             .kinds
             .iter()
             .filter(|kind| times(&self.kinds, kind) == 0);
+        let at_2_32 = self.at_2_32.met(wanted).into_iter();
+        let not_at_2_32 = at_2_32.filter(|(_, times)| *times == 0);
         lines
             .map(Refused::brief)
             .chain(pairs.map(|(a, b)| format!("{} where {} was due too", a.brief(), b.brief())))
             .chain(kinds.map(|kind| kind.to_string()))
+            .chain(not_at_2_32.map(|(what, _)| format!("{what} at 2^32")))
             .collect()
     }
 
@@ -95,6 +149,11 @@ impl Tally {
             let kinds = wanted.kinds.iter();
             let met = kinds.map(|kind| (kind.to_string(), times(&self.kinds, kind)));
             println!("{name}:   {}", listed(met));
+        }
+        if wanted.at_2_32.is_some() {
+            let At2To32 { inputs, .. } = self.at_2_32;
+            let met = listed(self.at_2_32.met(wanted).into_iter());
+            println!("{name}:   at 2^32 {inputs} inputs: {met}");
         }
     }
 

@@ -4,12 +4,13 @@
 
 use crate::decomposition::{part_degrees, Pair};
 use crate::inputs::choose;
+use crate::modulus::Modulus;
 use crate::polynomial::Polynomial;
-use crate::residue::common_factor;
+use crate::residue::shares_factor;
 use std::collections::HashMap;
 use std::sync::OnceLock;
 
-/// A modulus and a degree.
+/// The word of a modulus, and a degree.
 pub type Size = (u32, usize);
 
 /// The sizes whose pairs are known. Where a degree can be split twice, its
@@ -113,18 +114,18 @@ type Pairs = HashMap<(u32, Vec<u32>, usize), Pair>;
 type LeftParts = HashMap<(u32, Vec<u32>, Vec<u32>), Polynomial>;
 
 /// The normal pair of f at r, if there is one; r has an inverse modulo m.
-pub fn pair(f: &Polynomial, r: usize, m: u32) -> Option<Pair> {
+pub fn pair(f: &Polynomial, r: usize, m: Modulus) -> Option<Pair> {
     static PAIRS: OnceLock<Pairs> = OnceLock::new();
     let n = f.degree().expect("f is taken");
-    assert!(SPLIT.contains(&(m, n)), "not a size that is known");
+    assert!(SPLIT.contains(&(m.word(), n)), "not a size that is known");
     let pairs = PAIRS.get_or_init(all_pairs);
-    pairs.get(&(m, f.used().to_vec(), r)).cloned()
+    pairs.get(&(m.word(), f.used().to_vec(), r)).cloned()
 }
 
 fn all_pairs() -> Pairs {
     let mut pairs = HashMap::new();
     for &(m, n) in SPLIT {
-        let with_inverse = |r: &usize| common_factor(*r as u64, u64::from(m)) == 1;
+        let with_inverse = |r: &usize| !shares_factor(*r as u64, Modulus::of_word(m));
         for r in part_degrees(n).filter(with_inverse) {
             for h in all((m, n / r)).filter(|h| h.0[0] == 0) {
                 for g in all((m, r)) {
@@ -139,12 +140,15 @@ fn all_pairs() -> Pairs {
 }
 
 /// The left part of f for this h, if there is one.
-pub fn left_part(f: &Polynomial, h: &Polynomial, m: u32) -> Option<Polynomial> {
+pub fn left_part(f: &Polynomial, h: &Polynomial, m: Modulus) -> Option<Polynomial> {
     static LEFT_PARTS: OnceLock<LeftParts> = OnceLock::new();
     let n = f.degree().expect("f is taken");
-    assert!(LEFT_PART.contains(&(m, n)), "not a size that is known");
+    assert!(
+        LEFT_PART.contains(&(m.word(), n)),
+        "not a size that is known"
+    );
     let left_parts = LEFT_PARTS.get_or_init(all_left_parts);
-    let key = (m, f.used().to_vec(), h.used().to_vec());
+    let key = (m.word(), f.used().to_vec(), h.used().to_vec());
     left_parts.get(&key).cloned()
 }
 
@@ -164,7 +168,7 @@ fn all_left_parts() -> LeftParts {
     left_parts
 }
 
-fn composed(g: &Polynomial, h: &Polynomial, m: u32) -> Vec<u32> {
-    let f = g.compose(h, m).expect("tiny degrees");
+fn composed(g: &Polynomial, h: &Polynomial, word: u32) -> Vec<u32> {
+    let f = g.compose(h, Modulus::of_word(word)).expect("tiny degrees");
     f.used().to_vec()
 }

@@ -1,5 +1,5 @@
-//! The chains of 01's worked polynomials as sheets, byte by byte from 01's
-//! figures: were the order of the bytes or of the places mistaken by the desk
+//! The chains of 01's worked polynomials, and of some at modulus 2^32, as
+//! sheets, byte by byte from the figures: were the order of the bytes or of the places mistaken by the desk
 //! and by this program's records alike, only these would tell.
 
 use crate::worked::{self, Coefficients};
@@ -128,6 +128,43 @@ const LOW_BYTE_FIRST: TakenSheet = TakenSheet {
     records: &[&[2, 1, 0, 0, 1, 0, 0, 0, 0, 1, 0, 0, 1]],
 };
 
-pub fn taken() -> [TakenSheet; 8] {
-    [OF_A, OF_B, OF_C, OF_D, OF_E, OF_H, F_WHOLE, LOW_BYTE_FIRST]
+/// The modulus word is 0, 0, 0, 0; 4294967291 is 2^32 - 5, 4294967294 is
+/// 2^32 - 2 and 2147483647 is 2^31 - 1.
+const OF_N15: TakenSheet = TakenSheet {
+    name: "N15",
+    whole: worked::N15,
+    parts: &worked::N15_PAIR,
+    records: &[
+        &[0, 0, 0, 0, 7, 0, 0, 0, 251, 255, 255, 255, 0, 0, 0, 0, 1],
+        &[
+            0, 0, 0, 0, 0, 0, 0, 0, 255, 255, 255, 127, 0, 0, 0, 0, 254, 255, 255, 255, 0, 0, 0, 0,
+            1,
+        ],
+    ],
+};
+
+/// An even n, which gets no chain: a sheet with its parts is read.
+const OF_N4: TakenSheet = TakenSheet {
+    name: "N4",
+    whole: worked::N4,
+    parts: &[&[0, 0, 1], worked::N4_RIGHT],
+    records: &[
+        &[0, 0, 0, 0, 0, 0, 0, 0, 0, 0, 0, 0, 1],
+        &[0, 0, 0, 0, 0, 0, 0, 0, 0, 0, 1, 0, 1],
+    ],
+};
+
+pub fn taken() -> [TakenSheet; 10] {
+    [
+        OF_A,
+        OF_B,
+        OF_C,
+        OF_D,
+        OF_E,
+        OF_H,
+        F_WHOLE,
+        LOW_BYTE_FIRST,
+        OF_N15,
+        OF_N4,
+    ]
 }

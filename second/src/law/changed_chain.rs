@@ -9,7 +9,7 @@ use crate::change::{self, Change};
 use crate::decomposition::Chain;
 use crate::desk;
 use crate::inputs;
-use crate::operation::chain::{chained, nearly_at_times, PARTS};
+use crate::operation::chain::{chained, nearly_at_times, ODD_PARTS, PARTS};
 use crate::random::Random;
 use crate::shape::Shape;
 use crate::tally::Wanted;
@@ -34,6 +34,7 @@ impl Law for ChangedChain {
         alone: &[],
         apart: &[],
         kinds: &PARTS,
+        at_2_32: Some(ODD_PARTS),
     };
     const ONE_WAY: &'static str = "chain, then carried";
     const OTHER_WAY: &'static str = "changed, then chain";
@@ -71,6 +72,10 @@ impl Law for ChangedChain {
         let Input { asked, change } = input;
         let changed = desk::change_polynomial(asked.m, asked.first(), *change, random)?;
         desk::chain(asked.m, &changed.polynomial, &AREA, random)
+    }
+
+    fn at_2_32(input: &Input) -> bool {
+        input.asked.at_2_32()
     }
 
     fn kinds(_input: &Input, answer: &Chained) -> Vec<&'static str> {

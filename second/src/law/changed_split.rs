@@ -11,7 +11,7 @@ use crate::inputs;
 use crate::operation::split::{self, SplitAt, NO_PAIR, SHARING, UNFIT};
 use crate::random::Random;
 use crate::refused::Refused;
-use crate::residue::common_factor;
+use crate::residue::shares_factor;
 use crate::tally::Wanted;
 
 pub struct ChangedSplit;
@@ -24,6 +24,13 @@ pub struct Input {
 /// The refusals that depend on n, r and m only; a change touches none of them.
 const REFUSALS: &[Refused] = &[UNFIT, SHARING, NO_PAIR];
 
+const KINDS: [&str; 4] = [
+    "pair, the chain takes f",
+    "pair, the chain does not take f",
+    "no pair, the chain takes f",
+    "no pair, the chain does not take f",
+];
+
 impl Law for ChangedSplit {
     type Input = Input;
     type Answer = Two;
@@ -33,12 +40,8 @@ impl Law for ChangedSplit {
         order: &[],
         alone: REFUSALS,
         apart: &[],
-        kinds: &[
-            "pair, the chain takes f",
-            "pair, the chain does not take f",
-            "no pair, the chain takes f",
-            "no pair, the chain does not take f",
-        ],
+        kinds: &KINDS,
+        at_2_32: Some(&KINDS),
     };
     const ONE_WAY: &'static str = "split, then changed";
     const OTHER_WAY: &'static str = "changed, then split";
@@ -73,9 +76,13 @@ impl Law for ChangedSplit {
         desk::split(at.asked.m, &changed.polynomial, at.r, random)
     }
 
+    fn at_2_32(input: &Input) -> bool {
+        input.at.asked.at_2_32()
+    }
+
     fn kinds(input: &Input, answer: &Two) -> Vec<&'static str> {
         let asked = &input.at.asked;
-        let takes = common_factor(asked.degrees()[0] as u64, u64::from(asked.m)) == 1;
+        let takes = !shares_factor(asked.degrees()[0] as u64, asked.m);
         match (answer.refused, takes) {
             (Refused::ANSWERED, true) => vec!["pair, the chain takes f"],
             (Refused::ANSWERED, false) => vec!["pair, the chain does not take f"],

@@ -4,7 +4,6 @@
 use super::Law;
 use crate::answer::{One, AREA_WORDS, SHEET_BYTES};
 use crate::desk;
-use crate::operation::chain::PARTS;
 use crate::random::Random;
 use crate::sheet::{inputs, kinds, Places};
 use crate::tally::Wanted;
@@ -21,18 +20,8 @@ impl Law for ReadComposed {
         order: &[],
         alone: &[],
         apart: &[],
-        kinds: &[
-            PARTS[0],
-            PARTS[1],
-            PARTS[2],
-            PARTS[3],
-            PARTS[4],
-            PARTS[5],
-            kinds::NORMAL,
-            kinds::NOT_NORMAL,
-            kinds::SPLITS,
-            kinds::DEGREE_126,
-        ],
+        kinds: &kinds::TAKEN,
+        at_2_32: Some(&kinds::TAKEN),
     };
     const ONE_WAY: &'static str = "composed from the right";
     const OTHER_WAY: &'static str = "read";
@@ -60,6 +49,10 @@ impl Law for ReadComposed {
             refused: read.refused,
             polynomial: read.f,
         })
+    }
+
+    fn at_2_32(places: &Places) -> bool {
+        places.at_2_32()
     }
 
     fn kinds(places: &Places, _answer: &One) -> Vec<&'static str> {

@@ -3,7 +3,7 @@
 use super::Law;
 use crate::answer::{Written, AREA_WORDS, SHEET_BYTES};
 use crate::desk;
-use crate::operation::chain::PARTS;
+use crate::modulus::Modulus;
 use crate::random::Random;
 use crate::refused::Refused;
 use crate::sheet::{inputs, kinds, Places};
@@ -21,17 +21,8 @@ impl Law for ReadWritten {
         order: &[],
         alone: &[],
         apart: &[],
-        kinds: &[
-            PARTS[0],
-            PARTS[1],
-            PARTS[2],
-            PARTS[3],
-            PARTS[4],
-            PARTS[5],
-            kinds::NORMAL,
-            kinds::NOT_NORMAL,
-            kinds::SPLITS,
-        ],
+        kinds: &kinds::TAKEN,
+        at_2_32: Some(&kinds::TAKEN),
     };
     const ONE_WAY: &'static str = "the sheet";
     const OTHER_WAY: &'static str = "read and written";
@@ -54,7 +45,16 @@ impl Law for ReadWritten {
     fn other_way(places: &Places, random: &mut Random) -> Result<Written, String> {
         let sheet = places.in_sheet(&[0; SHEET_BYTES]);
         let read = desk::read_sheet(&sheet, &[0xDEAD_BEEF; AREA_WORDS], random)?;
-        desk::write_sheet(read.modulus, &read.area, &[0xEE; SHEET_BYTES], random)
+        desk::write_sheet(
+            Modulus::of_word(read.modulus),
+            &read.area,
+            &[0xEE; SHEET_BYTES],
+            random,
+        )
+    }
+
+    fn at_2_32(places: &Places) -> bool {
+        places.at_2_32()
     }
 
     fn kinds(places: &Places, _answer: &Written) -> Vec<&'static str> {

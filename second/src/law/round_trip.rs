@@ -28,6 +28,7 @@ impl Law for RoundTrip {
             inputs::SEVERAL_PRIMES,
             "degree 126",
         ],
+        at_2_32: Some(&["degree 126"]),
     };
     const ONE_WAY: &'static str = "the pair composed";
     const OTHER_WAY: &'static str = "the pair returned";
@@ -55,6 +56,10 @@ impl Law for RoundTrip {
     fn other_way(asked: &Asked, random: &mut Random) -> Result<Two, String> {
         let composed = desk::compose(asked.m, asked.first(), asked.second(), random)?;
         desk::split(asked.m, &composed.polynomial, asked.degrees()[0], random)
+    }
+
+    fn at_2_32(asked: &Asked) -> bool {
+        asked.at_2_32()
     }
 
     fn kinds(asked: &Asked, _answer: &Two) -> Vec<&'static str> {

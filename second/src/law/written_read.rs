@@ -6,7 +6,7 @@ use crate::answer::{SheetRead, AREA_WORDS, SHEET_BYTES};
 use crate::asked::Asked;
 use crate::desk;
 use crate::inputs;
-use crate::operation::chain::{nearly_at_times, PARTS};
+use crate::operation::chain::{nearly_at_times, ODD_PARTS, PARTS};
 use crate::random::Random;
 use crate::refused::Refused;
 use crate::shape::Shape;
@@ -30,6 +30,7 @@ impl Law for WrittenRead {
         alone: &[],
         apart: &[],
         kinds: &PARTS,
+        at_2_32: Some(ODD_PARTS),
     };
     const ONE_WAY: &'static str = "f and its chain";
     const OTHER_WAY: &'static str = "written and read";
@@ -48,7 +49,7 @@ impl Law for WrittenRead {
         let chained = desk::chain(asked.m, asked.first(), &AREA, random)?;
         Ok(SheetRead {
             refused: Refused::ANSWERED,
-            modulus: asked.m,
+            modulus: asked.m.word(),
             f: asked.first().clone(),
             area: chained.area,
         })
@@ -59,6 +60,10 @@ impl Law for WrittenRead {
         let blank = [0xEE; SHEET_BYTES];
         let written = desk::write_sheet(asked.m, &chained.area, &blank, random)?;
         desk::read_sheet(&written.sheet, &AREA, random)
+    }
+
+    fn at_2_32(asked: &Asked) -> bool {
+        asked.at_2_32()
     }
 
     fn kinds(asked: &Asked, answer: &SheetRead) -> Vec<&'static str> {

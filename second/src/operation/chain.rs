@@ -8,10 +8,11 @@ use crate::decomposition::{self, pair};
 use crate::desk;
 use crate::inputs;
 use crate::lent::garbage;
+use crate::modulus::Modulus;
 use crate::polynomial::{Polynomial, PLACES};
 use crate::random::Random;
 use crate::refused::{Refused, FIRST};
-use crate::residue::common_factor;
+use crate::residue::shares_factor;
 use crate::shape::{self, plain_power, Shape};
 use crate::tally::Wanted;
 use crate::worked::{self, Coefficients};
@@ -40,6 +41,13 @@ pub const PARTS: [&str; 6] = [
     "1 part", "2 parts", "3 parts", "4 parts", "5 parts", "6 parts",
 ];
 
+/// At 2^32 all degrees are odd: 3^4 fits under 126, 3^5 does not.
+pub const ODD_PARTS: &[&str] = PARTS.split_at(4).0;
+
+const PRIME_DEGREE: &str = "prime degree";
+const NO_SPLIT: &str = "no split, degree not prime";
+const BEGUN_AGAIN: &str = "begun again below the last s";
+
 impl Operation for Chain {
     type Input = ChainIn;
     type Answer = Chained;
@@ -56,10 +64,10 @@ impl Operation for Chain {
             PARTS[3],
             PARTS[4],
             PARTS[5],
-            "prime degree",
-            "no split, degree not prime",
+            PRIME_DEGREE,
+            NO_SPLIT,
             "first split at half the degree",
-            "begun again below the last s",
+            BEGUN_AGAIN,
             inputs::PRIME,
             inputs::PRIME_POWER,
             inputs::SEVERAL_PRIMES,
@@ -68,6 +76,15 @@ impl Operation for Chain {
             "area of no words",
             "area of 761 words",
         ],
+        at_2_32: Some(&[
+            PARTS[0],
+            PARTS[1],
+            PARTS[2],
+            PARTS[3],
+            PRIME_DEGREE,
+            NO_SPLIT,
+            BEGUN_AGAIN,
+        ]),
     };
 
     fn usual() -> u64 {
@@ -92,6 +109,10 @@ impl Operation for Chain {
 
     fn desk(input: &ChainIn, random: &mut Random) -> Result<Chained, String> {
         desk::chain(input.asked.m, input.asked.first(), &input.area, random)
+    }
+
+    fn at_2_32(input: &ChainIn) -> bool {
+        input.asked.at_2_32()
     }
 
     fn kinds(input: &ChainIn, answer: &Chained) -> Vec<&'static str> {
@@ -127,10 +148,10 @@ fn kinds_answered(input: &ChainIn, answer: &Chained) -> Vec<&'static str> {
 fn kinds_of_rounds(degrees: &[usize], tries: usize) -> Vec<&'static str> {
     let mut kinds = Vec::new();
     if tries == 0 {
-        kinds.push("prime degree");
+        kinds.push(PRIME_DEGREE);
     }
     if tries > 0 && degrees.len() == 1 {
-        kinds.push("no split, degree not prime");
+        kinds.push(NO_SPLIT);
     }
     // Here n is even, and s = 2 was tried in vain before n/2.
     if degrees.len() == 2 && degrees[0] == 2 && degrees[1] > 2 {
@@ -138,7 +159,7 @@ fn kinds_of_rounds(degrees: &[usize], tries: usize) -> Vec<&'static str> {
     }
     let right = &degrees[1..];
     if right.windows(2).any(|pair| pair[0] < pair[1]) {
-        kinds.push("begun again below the last s");
+        kinds.push(BEGUN_AGAIN);
     }
     kinds
 }
@@ -154,7 +175,7 @@ pub fn refusals_due(input: &ChainIn) -> Vec<Refused> {
     }
     due.extend(input.asked.refusals_due());
     let n = input.asked.degrees()[0] as u64;
-    if common_factor(n, u64::from(input.asked.m)) > 1 {
+    if shares_factor(n, input.asked.m) {
         due.push(SHARING);
     }
     due
@@ -211,7 +232,7 @@ fn taken(sharing: bool, random: &mut Random) -> Asked {
 }
 
 /// Of each shape some that were spoilt in one coefficient.
-pub fn nearly_at_times(shape: &Shape, m: u32, random: &mut Random) -> Polynomial {
+pub fn nearly_at_times(shape: &Shape, m: Modulus, random: &mut Random) -> Polynomial {
     let f = shape.polynomial(m, random);
     match random.below(6) {
         0 => shape::nearly(f, m, random),
@@ -236,7 +257,7 @@ pub fn any_area(short: bool, random: &mut Random) -> Vec<u32> {
 }
 
 // The worked cases. Their answers are written down from 01, the prices as
-// request No. 1 mends them, and not computed.
+// request No. 1 mends them, or from `worked` at 2^32, and not computed.
 
 fn area_of(length: usize) -> Vec<u32> {
     vec![0xDEAD_BEEF; length]
@@ -249,7 +270,7 @@ fn case(
     (tries, price): (usize, usize),
 ) -> Worked<ChainIn, Chained> {
     let parts: Vec<Polynomial> = parts.iter().map(|part| Polynomial::of(part)).collect();
-    let asked = Asked::one(m, Polynomial::of(f));
+    let asked = Asked::one(Modulus::of_word(m), Polynomial::of(f));
     let area = area_of(800);
     Worked {
         name,
@@ -269,7 +290,7 @@ fn case_refused(
     (m, f): (u32, Coefficients),
     refused: Refused,
 ) -> Worked<ChainIn, Chained> {
-    let asked = Asked::one(m, Polynomial::of(f));
+    let asked = Asked::one(Modulus::of_word(m), Polynomial::of(f));
     let area = area_of(763);
     Worked {
         name,
@@ -280,7 +301,7 @@ fn case_refused(
 
 /// Nothing is written, whatever else is wrong: the modulus here.
 fn case_short(name: &'static str, m: u32, length: usize) -> Worked<ChainIn, Chained> {
-    let asked = Asked::one(m, Polynomial::of(worked::A.1));
+    let asked = Asked::one(Modulus::of_word(m), Polynomial::of(worked::A.1));
     let area = area_of(length);
     Worked {
         name,
@@ -303,7 +324,7 @@ fn case_six_parts() -> Worked<ChainIn, Chained> {
             area: filled(&area, &[(); 6].map(|_| square.clone())),
         },
         input: ChainIn {
-            asked: Asked::one(101, plain_power(64)),
+            asked: Asked::one(Modulus::of_word(101), plain_power(64)),
             area,
         },
     }
@@ -334,6 +355,14 @@ fn worked_cases() -> Vec<Worked<ChainIn, Chained>> {
         ),
         case_refused("H", worked::H, Refused::plain(5)),
         case_refused("J", worked::J, Refused::plain(5)),
+        case_refused("N4", worked::N4, Refused::plain(5)),
+        case_refused("N6", worked::N6, Refused::plain(5)),
+        case("N9", worked::N9, &worked::N9_PAIR, (1, 4)),
+        case("N9 and x", worked::N9_AND_X, &[worked::N9_AND_X.1], (1, 8)),
+        case("N15", worked::N15, &worked::N15_PAIR, (2, 6)),
+        case("N27", worked::N27, &worked::N27_PARTS, (2, 6)),
+        case_refused("all zero, m too", (0, &[]), Refused::about(3, FIRST)),
+        case_refused("m 4294967295", (u32::MAX, square), Refused::plain(1)),
         case_refused("K, m 1", (1, square), Refused::plain(1)),
         case_refused("K, m 2147483648", (too_high, square), Refused::plain(1)),
         case("K, m 2", (2, &[0, 0, 0, 1]), &[&[0, 0, 0, 1]], (0, 2)),

@@ -1,6 +1,6 @@
 //! Change unit and origin of a pair.
 
-use super::change_polynomial::{self, Changing, BAD_CHANGE};
+use super::change_polynomial::{self, Changing, BAD_CHANGE, KINDS};
 use super::compose::{self, APART, TOO_HIGH};
 use super::{Operation, Own, Worked};
 use crate::answer::Two;
@@ -8,12 +8,13 @@ use crate::asked::Asked;
 use crate::change::{self, Change};
 use crate::damage;
 use crate::desk;
+use crate::modulus::Modulus;
 use crate::polynomial::Polynomial;
 use crate::random::Random;
 use crate::refused::{Refused, FIRST, SECOND};
 use crate::shape::plain_power;
 use crate::tally::Wanted;
-use crate::worked::Coefficients;
+use crate::worked::{self, Coefficients};
 
 /// g is the first polynomial, h the second.
 pub struct ChangePair;
@@ -39,7 +40,8 @@ impl Operation for ChangePair {
         order: ORDER,
         alone: &[],
         apart: APART,
-        kinds: &change_polynomial::KINDS,
+        kinds: &KINDS,
+        at_2_32: Some(KINDS.split_at(1).1),
     };
 
     fn usual() -> u64 {
@@ -71,6 +73,10 @@ impl Operation for ChangePair {
         desk::change_pair(asked.m, asked.first(), asked.second(), *change, random)
     }
 
+    fn at_2_32(input: &Changing) -> bool {
+        input.asked.at_2_32()
+    }
+
     fn kinds(input: &Changing, answer: &Two) -> Vec<&'static str> {
         change_polynomial::kinds(input, answer.refused)
     }
@@ -87,7 +93,8 @@ fn refusals_due(asked: &Asked, change: Change) -> Vec<Refused> {
     due
 }
 
-// The worked cases. Their answers are written down from 01 and not computed.
+// The worked cases. Their answers are written down from 01, or from `worked` at
+// 2^32, and not computed.
 
 fn case(
     name: &'static str,
@@ -96,7 +103,7 @@ fn case(
     change: Change,
     answer: Two,
 ) -> Worked<Changing, Two> {
-    let asked = Asked::two(m, Polynomial::of(g), Polynomial::of(h));
+    let asked = Asked::two(Modulus::of_word(m), Polynomial::of(g), Polynomial::of(h));
     Worked {
         name,
         input: Changing { asked, change },
@@ -106,7 +113,7 @@ fn case(
 
 /// Degrees 64 and 2 with a change that is not taken either: 10 comes before 8.
 fn case_too_high(name: &'static str, change: Change) -> Worked<Changing, Two> {
-    let asked = Asked::two(101, plain_power(64), plain_power(2));
+    let asked = Asked::two(Modulus::of_word(101), plain_power(64), plain_power(2));
     Worked {
         name,
         input: Changing { asked, change },
@@ -125,6 +132,8 @@ fn worked_cases() -> Vec<Worked<Changing, Two>> {
     let c: (Coefficients, Coefficients) = (&[9, 0, 0, 1], &[1, 1, 1]);
     let f: (Coefficients, Coefficients) = (&[1, 0, 1], square);
     let g: (Coefficients, Coefficients) = (&[0, 1, 1], square);
+    let n9: (Coefficients, Coefficients) = worked::N9_PAIR.into();
+    let [n9_left, n9_right] = worked::N9_CHANGED_PAIR;
     vec![
         case("A, (1, 0)", 101, a, [1, 0], pair(a.0, a.1)),
         // "Only a pair with h(0) not zero is made normal by it."
@@ -133,6 +142,9 @@ fn worked_cases() -> Vec<Worked<Changing, Two>> {
         case("G", 5, g, [2, 0], pair(&[0, 4, 1], square)),
         case("a = 0", 101, f, [0, 1], no(Refused::plain(8))),
         case("b = m", 101, f, [1, 101], no(Refused::plain(8))),
+        case("N9", 0, n9, [3, 2_147_483_649], pair(n9_left, n9_right)),
+        case("N9, (1, 0)", 0, n9, [1, 0], pair(n9.0, n9.1)),
+        case("2^32, a = 2", 0, n9, [2, 1], no(Refused::plain(8))),
         case("K, m 1", 1, squares, [1, 0], no(Refused::plain(1))),
         case(
             "K, m 2147483648",

@@ -7,6 +7,7 @@ use crate::change::{self, Change};
 use crate::damage;
 use crate::desk;
 use crate::inputs;
+use crate::modulus::Modulus;
 use crate::polynomial::Polynomial;
 use crate::random::Random;
 use crate::refused::{Refused, FIRST};
@@ -41,6 +42,7 @@ impl Operation for ChangePolynomial {
         alone: &[],
         apart: &[],
         kinds: &KINDS,
+        at_2_32: Some(KINDS.split_at(1).1),
     };
 
     fn usual() -> u64 {
@@ -73,6 +75,10 @@ impl Operation for ChangePolynomial {
         desk::change_polynomial(input.asked.m, input.asked.first(), input.change, random)
     }
 
+    fn at_2_32(input: &Changing) -> bool {
+        input.asked.at_2_32()
+    }
+
     fn kinds(input: &Changing, answer: &One) -> Vec<&'static str> {
         kinds(input, answer.refused)
     }
@@ -84,14 +90,16 @@ impl Operation for ChangePolynomial {
 
 // What the change of a pair needs as well.
 
-/// The changes that are taken, and those that are not.
-pub const KINDS: [&str; 6] = [
+/// The changes that are taken, and those that are not; at 2^32 all but the
+/// first: no word is too large there.
+pub const KINDS: [&str; 7] = [
+    "a too large, or b",
+    "a without an inverse",
+    "a = 0",
     "(1, 0)",
     "(1, b)",
     "(a, 0)",
     "(a, b)",
-    "a too large, or b",
-    "a without an inverse",
 ];
 
 pub fn kinds(input: &Changing, refused: Refused) -> Vec<&'static str> {
@@ -101,7 +109,8 @@ pub fn kinds(input: &Changing, refused: Refused) -> Vec<&'static str> {
         (Refused::ANSWERED, [1, _]) => "(1, b)",
         (Refused::ANSWERED, [_, 0]) => "(a, 0)",
         (Refused::ANSWERED, _) => "(a, b)",
-        (BAD_CHANGE, [a, b]) if a >= m || b >= m => "a too large, or b",
+        (BAD_CHANGE, [a, b]) if !m.is_above(a) || !m.is_above(b) => "a too large, or b",
+        (BAD_CHANGE, [0, _]) => "a = 0",
         (BAD_CHANGE, _) => "a without an inverse",
         _ => return Vec::new(),
     };
@@ -110,8 +119,7 @@ pub fn kinds(input: &Changing, refused: Refused) -> Vec<&'static str> {
 
 /// A change that is taken modulo m, or one that is not, if that is wanted.
 pub fn any_change(asked: &Asked, lines: &[Refused], random: &mut Random) -> Change {
-    // No change is taken modulo 0 or 1.
-    if lines.contains(&BAD_CHANGE) || asked.m < 2 {
+    if lines.contains(&BAD_CHANGE) {
         return damage::spoiled_change(asked.m, random);
     }
     match random.below(16) {
@@ -124,7 +132,8 @@ pub fn show(input: &Changing) -> String {
     format!("{}  change: {:?}\n", input.asked, input.change)
 }
 
-// The worked cases. Their answers are written down from 01 and not computed.
+// The worked cases. Their answers are written down from 01, or from `worked` at
+// 2^32, and not computed.
 
 fn case(
     name: &'static str,
@@ -132,13 +141,22 @@ fn case(
     change: Change,
     answer: One,
 ) -> Worked<Changing, One> {
-    let asked = Asked::one(m, Polynomial::of(f));
+    let asked = Asked::one(Modulus::of_word(m), Polynomial::of(f));
     Worked {
         name,
         input: Changing { asked, change },
         answer,
     }
 }
+
+/// (3x + 1)^4 + 1 is 81x^4 + 108x^3 + 54x^2 + 12x + 2; it is divided by 81.
+const FOURTH_BY_3_1: Coefficients = &[
+    4_029_845_858,
+    2_704_238_668,
+    1_431_655_766,
+    2_863_311_532,
+    1,
+];
 
 fn worked_cases() -> Vec<Worked<Changing, One>> {
     let f = |coefficients: Coefficients| One::answered(Polynomial::of(coefficients));
@@ -156,6 +174,28 @@ fn worked_cases() -> Vec<Worked<Changing, One>> {
         case("a = m", worked::F, [101, 1], no(8)),
         case("b = m", worked::F, [1, 101], no(8)),
         case("no inverse", worked::D, [2, 1], no(8)),
+        // (-x - 1)^2 is x^2 + 2x + 1, and (-1)^2 is 1.
+        case(
+            "2^32, (-1, -1)",
+            (0, square),
+            [u32::MAX, u32::MAX],
+            f(&[1, 2, 1]),
+        ),
+        case(
+            "2^32, F by (3, 1)",
+            (0, worked::F.1),
+            [3, 1],
+            f(FOURTH_BY_3_1),
+        ),
+        case(
+            "N9",
+            worked::N9,
+            [3, 2_147_483_649],
+            f(worked::N9_CHANGED.1),
+        ),
+        case("2^32, a = 2", worked::N9, [2, 1], no(8)),
+        case("2^32, a = 0", worked::N9, [0, 1], no(8)),
+        case("2^32, a = 2^32 - 2", worked::N9, [u32::MAX - 1, 0], no(8)),
         case("K, m 1", (1, square), [1, 0], no(1)),
         case("K, m 2147483648", (too_high, square), [1, 0], no(1)),
         case("K, m 2", (2, square), [1, 1], f(&[1, 0, 1])),

@@ -6,11 +6,11 @@ use crate::asked::Asked;
 use crate::damage;
 use crate::desk;
 use crate::inputs::{self, choose};
+use crate::modulus::{Modulus, TOP_WORD, WHOLE_WORDS};
 use crate::polynomial::{Polynomial, PLACES, TOP_DEGREE};
 use crate::random::Random;
 use crate::record::{self, Record, RECORD_BYTES};
 use crate::refused::{Refused, FIRST};
-use crate::residue::TOP_MODULUS;
 use crate::tally::Wanted;
 use crate::worked;
 
@@ -27,6 +27,13 @@ const ORDER: &[Refused] = &[
     Refused::about(4, FIRST),
 ];
 
+/// "An all-zero record is now No. 3" (the readings of 02).
+const ZERO_BYTES: &str = "512 zero bytes";
+const LARGEST_WORD: &str = "coefficient 4294967295 taken";
+const M_1: &str = "m 1";
+const M_2_31: &str = "m 2147483648";
+const M_LARGEST: &str = "m 4294967295";
+
 impl Operation for Check {
     type Input = Vec<u8>;
     type Answer = Checked;
@@ -36,7 +43,8 @@ impl Operation for Check {
         order: ORDER,
         alone: &[],
         apart: &[],
-        kinds: &[],
+        kinds: &[ZERO_BYTES, LARGEST_WORD, M_1, M_2_31, M_LARGEST],
+        at_2_32: Some(&[ZERO_BYTES, LARGEST_WORD]),
     };
 
     fn usual() -> u64 {
@@ -68,6 +76,23 @@ impl Operation for Check {
 
     fn desk(bytes: &Vec<u8>, random: &mut Random) -> Result<Checked, String> {
         desk::check(bytes, random)
+    }
+
+    fn at_2_32(bytes: &Vec<u8>) -> bool {
+        Record::read_padded(bytes).modulus == WHOLE_WORDS
+    }
+
+    fn kinds(bytes: &Vec<u8>, answer: &Checked) -> Vec<&'static str> {
+        let word = Record::read_padded(bytes).modulus.word();
+        let kind = match (answer.refused.number, word) {
+            (0, _) if answer.f.0.contains(&u32::MAX) => LARGEST_WORD,
+            (1, 1) => M_1,
+            (1, ABOVE) => M_2_31,
+            (1, u32::MAX) => M_LARGEST,
+            (3, 0) if bytes.iter().all(|&byte| byte == 0) => ZERO_BYTES,
+            _ => return Vec::new(),
+        };
+        vec![kind]
     }
 
     fn show(bytes: &Vec<u8>) -> String {
@@ -106,17 +131,18 @@ fn refused_with(refused: Refused) -> Checked {
 fn taken(record: &Record) -> Checked {
     Checked {
         refused: Refused::ANSWERED,
-        modulus: record.modulus,
+        modulus: record.modulus.word(),
         f: record.f.clone(),
         degree: record.f.degree().expect("all zero is refused by 3"),
     }
 }
 
-// The worked cases. Their answers are written down from 01 and not computed.
+// The worked cases. Their answers are written down from 01 and from request No. 3,
+// and not computed.
 
-fn record_of(modulus: u32, coefficients: &[u32]) -> Record {
+fn record_of(word: u32, coefficients: &[u32]) -> Record {
     Record {
-        modulus,
+        modulus: Modulus::of_word(word),
         f: Polynomial::of(coefficients),
     }
 }
@@ -200,6 +226,14 @@ fn worked_cases() -> Vec<Worked<Vec<u8>, Checked>> {
         case_refused("all zero", (101, &[]), (3, 1, 0)),
         case_refused("2x^2", (101, &[0, 0, 2]), (4, 1, 0)),
         case_refused("101 and 102", (101, &[0, 0, 101, 102]), (2, 1, 2)),
+        // Request No. 3, and the readings of 02.
+        case_taken("N9", worked::N9, 9),
+        case_taken("m 0", (0, square), 2),
+        case_taken("m 0, 2^32 - 1", (0, &[u32::MAX, u32::MAX, 1]), 2),
+        case_refused("all zero, m too", (0, &[]), (3, 1, 0)),
+        case_refused("m 0, x + 1", (0, &[1, 1]), (3, 1, 0)),
+        case_refused("m 0, -x^2", (0, &[0, 0, u32::MAX]), (4, 1, 0)),
+        case_refused("m 4294967295", (u32::MAX, square), (1, 0, 0)),
         case_low_byte_first(),
         case_no_bytes(),
     ]
@@ -208,7 +242,10 @@ fn worked_cases() -> Vec<Worked<Vec<u8>, Checked>> {
 // The edges: one record for each combination of the lists below, all other
 // coefficients zero.
 
-const EDGE_MODULI: [u32; 7] = [0, 1, 2, 3, TOP_MODULUS, TOP_MODULUS + 1, u32::MAX];
+/// The least word above the moduli.
+const ABOVE: u32 = TOP_WORD + 1;
+
+const EDGE_MODULI: [u32; 7] = [0, 1, 2, 3, TOP_WORD, ABOVE, u32::MAX];
 const EDGE_DEGREES: [usize; 4] = [0, 1, 2, TOP_DEGREE];
 /// The leading coefficient: 0, 1, 2 or m - 1.
 const EDGE_LEADINGS: u64 = 4;
@@ -216,8 +253,8 @@ const EDGE_LEADINGS: u64 = 4;
 const EDGE_VALUES: u64 = 4;
 /// Where it stands: 0, 1, at the degree, one above it, 126.
 const EDGE_POWERS: u64 = 5;
-/// The further coefficients, and none.
-const EDGE_FURTHER: u64 = EDGE_VALUES * EDGE_POWERS + 1;
+/// None, and the further coefficients.
+const EDGE_FURTHER: u64 = 1 + EDGE_VALUES * EDGE_POWERS;
 const EDGES: u64 = (EDGE_MODULI.len() * EDGE_DEGREES.len()) as u64 * EDGE_LEADINGS * EDGE_FURTHER;
 
 fn edge(mut combination: u64) -> Record {
@@ -227,11 +264,12 @@ fn edge(mut combination: u64) -> Record {
     let leading = [0, 1, 2, m.wrapping_sub(1)][choose(left, EDGE_LEADINGS) as usize];
     let mut record = record_of(m, &[]);
     record.f.0[degree] = leading;
-    // The last choice is "none".
-    if *left < EDGE_FURTHER - 1 {
-        let power = [0, 1, degree, degree + 1, TOP_DEGREE][choose(left, EDGE_POWERS) as usize];
-        let value =
-            [m.wrapping_sub(1), m, m.wrapping_add(1), u32::MAX][choose(left, EDGE_VALUES) as usize];
+    // The first choice is "none".
+    if let Some(mut further) = left.checked_sub(1) {
+        let values = [m.wrapping_sub(1), m, m.wrapping_add(1), u32::MAX];
+        let powers = [0, 1, degree, degree + 1, TOP_DEGREE];
+        let power = powers[choose(&mut further, EDGE_POWERS) as usize];
+        let value = values[choose(&mut further, EDGE_VALUES) as usize];
         record.f.0[power.min(TOP_DEGREE)] = value;
     }
     record

@@ -6,6 +6,7 @@ use crate::answer::Changed;
 use crate::change::{self, Change};
 use crate::damage;
 use crate::desk;
+use crate::modulus::{Modulus, WHOLE_WORDS};
 use crate::random::Random;
 use crate::refused::Refused;
 use crate::tally::Wanted;
@@ -13,7 +14,9 @@ use crate::tally::Wanted;
 pub struct Combine;
 
 /// m, and the two changes.
-pub type Input = (u32, [Change; 2]);
+pub type Input = (Modulus, [Change; 2]);
+
+const KINDS: [&str; 3] = ["only the first bad", "only the second bad", "both bad"];
 
 impl Operation for Combine {
     type Input = Input;
@@ -24,7 +27,8 @@ impl Operation for Combine {
         order: &[BAD_MODULUS, BAD_CHANGE],
         alone: &[],
         apart: &[],
-        kinds: &["only the first bad", "only the second bad", "both bad"],
+        kinds: &KINDS,
+        at_2_32: Some(&KINDS),
     };
 
     fn usual() -> u64 {
@@ -56,6 +60,10 @@ impl Operation for Combine {
         desk::combine(*m, *first, *second, random)
     }
 
+    fn at_2_32((m, _): &Input) -> bool {
+        *m == WHOLE_WORDS
+    }
+
     fn kinds((m, changes): &Input, answer: &Changed) -> Vec<&'static str> {
         if answer.refused != BAD_CHANGE {
             return Vec::new();
@@ -74,9 +82,9 @@ impl Operation for Combine {
 
 /// "First (a, b), then (a2, b2), is the one change (a·a2, a·b2 + b)", in whole
 /// numbers.
-fn combined(m: u32, [[a, b], [a2, b2]]: [Change; 2]) -> Change {
+fn combined(m: Modulus, [[a, b], [a2, b2]]: [Change; 2]) -> Change {
     let [a, b, a2, b2] = [a, b, a2, b2].map(i128::from);
-    [a * a2, a * b2 + b].map(|number| number.rem_euclid(i128::from(m)) as u32)
+    [a * a2, a * b2 + b].map(|number| number.rem_euclid(i128::from(m.number())) as u32)
 }
 
 // The worked cases: 01's rule, worked out by hand.
@@ -89,7 +97,7 @@ fn case(
 ) -> Worked<Input, Changed> {
     Worked {
         name,
-        input: (m, changes),
+        input: (Modulus::of_word(m), changes),
         answer,
     }
 }
@@ -107,6 +115,22 @@ fn worked_cases() -> Vec<Worked<Input, Changed>> {
         case("F, and undone", 101, [[1, 1], [1, 100]], is([1, 0])),
         case("G, and undone", 5, [[2, 0], [3, 0]], is([1, 0])),
         case("modulo 4", 4, [[3, 1], [3, 2]], is([1, 3])),
+        // (-1)·3 is -3, and (-1)·2^31 + 1 is 2^31 + 1, for -2^31 is 2^31.
+        case(
+            "2^32, run round",
+            0,
+            [[u32::MAX, 1], [3, 2_147_483_648]],
+            is([4_294_967_293, 2_147_483_649]),
+        ),
+        // 3·1/3 is 1, and 3·(-5/3) + 5 is 0.
+        case(
+            "2^32, and undone",
+            0,
+            [[3, 5], [2_863_311_531, 2_863_311_529]],
+            is([1, 0]),
+        ),
+        case("2^32, first bad", 0, [[2, 0], [1, 0]], no(8)),
+        case("2^32, second bad", 0, [[1, u32::MAX], [0, 0]], no(8)),
         case("first bad", 4, [[2, 1], [3, 2]], no(8)),
         case("second bad", 4, [[3, 1], [3, 4]], no(8)),
         case("K, m 1", 1, [[1, 0], [1, 0]], no(1)),

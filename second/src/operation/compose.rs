@@ -7,6 +7,7 @@ use crate::composition::composed;
 use crate::damage;
 use crate::desk;
 use crate::inputs;
+use crate::modulus::Modulus;
 use crate::polynomial::{Polynomial, TOP_DEGREE};
 use crate::random::Random;
 use crate::refused::{Refused, FIRST, SECOND};
@@ -37,6 +38,8 @@ pub const APART: &[(Refused, Refused)] = &[
     (Refused::about(3, SECOND), TOO_HIGH),
 ];
 
+const KINDS: [&str; 3] = ["degree 126", "h(0) zero", "h(0) not zero"];
+
 impl Operation for Compose {
     type Input = Asked;
     type Answer = One;
@@ -46,7 +49,8 @@ impl Operation for Compose {
         order: ORDER,
         alone: &[],
         apart: APART,
-        kinds: &["degree 126", "h(0) zero", "h(0) not zero"],
+        kinds: &KINDS,
+        at_2_32: Some(&KINDS),
     };
 
     fn usual() -> u64 {
@@ -72,6 +76,10 @@ impl Operation for Compose {
 
     fn desk(asked: &Asked, random: &mut Random) -> Result<One, String> {
         desk::compose(asked.m, asked.first(), asked.second(), random)
+    }
+
+    fn at_2_32(asked: &Asked) -> bool {
+        asked.at_2_32()
     }
 
     fn kinds(asked: &Asked, answer: &One) -> Vec<&'static str> {
@@ -129,7 +137,8 @@ fn degrees_too_high(random: &mut Random) -> (usize, usize) {
     (first, second)
 }
 
-// The worked cases. Their answers are written down from 01 and not computed.
+// The worked cases. Their answers are written down from 01, or from `worked` at
+// 2^32, and not computed.
 
 fn case(
     name: &'static str,
@@ -139,7 +148,7 @@ fn case(
 ) -> Worked<Asked, One> {
     Worked {
         name,
-        input: Asked::two(m, Polynomial::of(g), Polynomial::of(h)),
+        input: Asked::two(Modulus::of_word(m), Polynomial::of(g), Polynomial::of(h)),
         answer: One::answered(Polynomial::of(f)),
     }
 }
@@ -153,7 +162,7 @@ fn case_refused(
 ) -> Worked<Asked, One> {
     Worked {
         name,
-        input: Asked::two(m, g, h),
+        input: Asked::two(Modulus::of_word(m), g, h),
         answer: One::refused_with(refused),
     }
 }
@@ -162,6 +171,7 @@ fn worked_cases() -> Vec<Worked<Asked, One>> {
     let of = Polynomial::of;
     let square: Coefficients = &[0, 0, 1];
     let fourth: Coefficients = &[0, 0, 0, 0, 1];
+    let half: Coefficients = &[0, 2_147_483_648, 1];
     let (m, top) = (101, 2_147_483_647);
     vec![
         case("A", worked::A, &[10, 3, 3, 1], &[0, 1, 1]),
@@ -176,6 +186,19 @@ fn worked_cases() -> Vec<Worked<Asked, One>> {
         case("H", worked::H, &[1, 1, 1], &[0, 1, 1]),
         case("J, x^2 + x after x^2", worked::J, &[0, 1, 1], square),
         case("J, x^2 after x^2 + x", worked::J, square, &[0, 1, 1]),
+        case("N4", worked::N4, square, worked::N4_RIGHT),
+        // What No. 5 is for at 2^32: 2·2^31 and 2^62 are 0.
+        case("2^32, x^2 after x^2 + 2^31 x", (0, fourth), square, half),
+        case("N6", worked::N6, worked::N6_PAIR[0], worked::N6_PAIR[1]),
+        case("N9", worked::N9, worked::N9_PAIR[0], worked::N9_PAIR[1]),
+        case("N15", worked::N15, worked::N15_PAIR[0], worked::N15_PAIR[1]),
+        case_refused(
+            "m 4294967295",
+            u32::MAX,
+            of(square),
+            of(square),
+            Refused::plain(1),
+        ),
         case_refused("K, m 1", 1, of(square), of(square), Refused::plain(1)),
         case_refused(
             "K, m 2147483648",
@@ -188,7 +211,7 @@ fn worked_cases() -> Vec<Worked<Asked, One>> {
         case("K, m 2147483647", (top, fourth), square, square),
         Worked {
             name: "L, 63 and 2",
-            input: Asked::two(m, plain_power(63), plain_power(2)),
+            input: Asked::two(Modulus::of_word(m), plain_power(63), plain_power(2)),
             answer: One::answered(plain_power(126)),
         },
         case_refused(

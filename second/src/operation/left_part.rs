@@ -7,10 +7,11 @@ use crate::damage;
 use crate::decomposition::left_part;
 use crate::desk;
 use crate::inputs;
+use crate::modulus::Modulus;
 use crate::polynomial::{Polynomial, TOP_DEGREE};
 use crate::random::Random;
 use crate::refused::{Refused, FIRST, SECOND};
-use crate::residue::common_factor;
+use crate::residue::shares_factor;
 use crate::shape::{self, plain_power};
 use crate::tally::Wanted;
 use crate::worked::{self, Coefficients};
@@ -32,6 +33,15 @@ const ORDER: &[Refused] = &[
     UNFIT,
 ];
 
+const KINDS: [&str; 6] = [
+    "left part, h(0) zero",
+    "left part, h(0) not zero",
+    "left part, n/s without an inverse",
+    "s above n",
+    "s = n",
+    "s not dividing n",
+];
+
 impl Operation for LeftPart {
     type Input = Asked;
     type Answer = One;
@@ -41,14 +51,8 @@ impl Operation for LeftPart {
         order: ORDER,
         alone: &[NO_LEFT_PART],
         apart: &[],
-        kinds: &[
-            "left part, h(0) zero",
-            "left part, h(0) not zero",
-            "left part, n/s without an inverse",
-            "s above n",
-            "s = n",
-            "s not dividing n",
-        ],
+        kinds: &KINDS,
+        at_2_32: Some(&KINDS),
     };
 
     fn usual() -> u64 {
@@ -82,6 +86,10 @@ impl Operation for LeftPart {
         desk::left_part(asked.m, asked.first(), asked.second(), random)
     }
 
+    fn at_2_32(asked: &Asked) -> bool {
+        asked.at_2_32()
+    }
+
     fn kinds(asked: &Asked, answer: &One) -> Vec<&'static str> {
         let [n, s] = asked.degrees()[..] else {
             return Vec::new();
@@ -106,7 +114,7 @@ fn kinds_answered(asked: &Asked, r: usize) -> Vec<&'static str> {
     } else {
         "left part, h(0) not zero"
     };
-    let shares = common_factor(r as u64, u64::from(asked.m)) > 1;
+    let shares = shares_factor(r as u64, asked.m);
     let no_inverse = shares.then_some("left part, n/s without an inverse");
     [constant].into_iter().chain(no_inverse).collect()
 }
@@ -174,7 +182,8 @@ fn unfit(random: &mut Random) -> Asked {
     Asked::two(m, f, h)
 }
 
-// The worked cases. Their answers are written down from 01 and not computed.
+// The worked cases. Their answers are written down from 01, or from `worked` at
+// 2^32, and not computed.
 
 fn case(
     name: &'static str,
@@ -184,7 +193,7 @@ fn case(
 ) -> Worked<Asked, One> {
     Worked {
         name,
-        input: Asked::two(m, Polynomial::of(f), Polynomial::of(h)),
+        input: Asked::two(Modulus::of_word(m), Polynomial::of(f), Polynomial::of(h)),
         answer,
     }
 }
@@ -194,6 +203,7 @@ fn worked_cases() -> Vec<Worked<Asked, One>> {
     let no = One::refused_with;
     let square: Coefficients = &[0, 0, 1];
     let fourth: Coefficients = &[0, 0, 0, 0, 1];
+    let half: Coefficients = &[0, 2_147_483_648, 1];
     let (top, too_high) = (2_147_483_647, 2_147_483_648);
     vec![
         case("A", worked::A, &[0, 1, 1], g(&[10, 3, 3, 1])),
@@ -207,6 +217,23 @@ fn worked_cases() -> Vec<Worked<Asked, One>> {
         case("I", worked::I, &[0, 1, 1], no(Refused::plain(7))),
         case("J, h = x^2", worked::J, square, g(&[0, 1, 1])),
         case("J, h = x^2 + x", worked::J, &[0, 1, 1], g(square)),
+        case("N4", worked::N4, worked::N4_RIGHT, g(square)),
+        // One f and two h: an even r has no inverse at 2^32, and needs none.
+        case("2^32, x^4, h = x^2", (0, fourth), square, g(square)),
+        case("2^32, x^4, h = x^2 + 2^31 x", (0, fourth), half, g(square)),
+        case("N9", worked::N9, worked::N9_PAIR[1], g(worked::N9_PAIR[0])),
+        case(
+            "N9, h(0) = 5",
+            worked::N9,
+            &[5, 4_000_000_001, 2_147_483_648, 1],
+            g(&[4_133_039_485, 2_212_254_796, 2_999_999_985, 1]),
+        ),
+        case(
+            "N9 and x",
+            worked::N9_AND_X,
+            worked::N9_PAIR[1],
+            no(Refused::plain(7)),
+        ),
         case("K, m 1", (1, fourth), square, no(Refused::plain(1))),
         case(
             "K, m 2147483648",
@@ -238,7 +265,7 @@ fn worked_cases() -> Vec<Worked<Asked, One>> {
         case("h as high as f", worked::F, fourth, no(Refused::plain(6))),
         Worked {
             name: "x^126 with h = x^63",
-            input: Asked::two(101, plain_power(126), plain_power(63)),
+            input: Asked::two(Modulus::of_word(101), plain_power(126), plain_power(63)),
             answer: One::answered(plain_power(2)),
         },
     ]

@@ -4,6 +4,7 @@ use super::{Operation, Own, Worked};
 use crate::answer::{Place, AREA_WORDS, TOP_PARTS};
 use crate::inputs;
 use crate::lent::garbage;
+use crate::modulus::Modulus;
 use crate::polynomial::{Polynomial, PLACES};
 use crate::random::Random;
 use crate::tally::Wanted;
@@ -40,6 +41,7 @@ impl Operation for Part {
             "area of 761 words",
             "all zero",
         ],
+        at_2_32: None,
     };
 
     fn usual() -> u64 {
@@ -169,7 +171,7 @@ fn like_a_chain(used: &mut [u32], random: &mut Random) {
     let parts = random.between(1, TOP_PARTS);
     for place in used.chunks_exact_mut(PLACES).take(parts) {
         let degree = random.between(2, 63);
-        place.copy_from_slice(&inputs::monic(random, degree, 101).0);
+        place.copy_from_slice(&inputs::monic(random, degree, Modulus::of_word(101)).0);
     }
 }
 

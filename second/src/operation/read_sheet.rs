@@ -8,6 +8,7 @@ use crate::asked::Asked;
 use crate::damage::spoiled_modulus;
 use crate::desk;
 use crate::inputs::{PRIME, PRIME_POWER, SEVERAL_PRIMES};
+use crate::modulus::Modulus;
 use crate::polynomial::Polynomial;
 use crate::random::Random;
 use crate::record::{Record, RECORD_BYTES};
@@ -61,8 +62,8 @@ const ORDER: &[Refused] = &[
 const MODULI_DIFFER: &str = "moduli differ";
 const GAP_TOO_HIGH: &str = "not the first places, where No. 10 was due too";
 const DIFFER_TOO_HIGH: &str = "moduli differ, where No. 10 was due too";
+const SOME_AT_2_32: &str = "moduli differ, 2^32 among them";
 const MODULUS_ONLY: &str = "used by its modulus word only";
-const NO_MODULUS: &str = "used, and its modulus word 0";
 const LAST_BYTE_ONLY: &str = "used by its last byte only";
 
 impl Operation for ReadSheet {
@@ -98,8 +99,8 @@ impl Operation for ReadSheet {
             MODULI_DIFFER,
             GAP_TOO_HIGH,
             DIFFER_TOO_HIGH,
+            SOME_AT_2_32,
             MODULUS_ONLY,
-            NO_MODULUS,
             LAST_BYTE_ONLY,
             kinds::FULL_AREA,
             kinds::LONG_AREA,
@@ -111,6 +112,7 @@ impl Operation for ReadSheet {
             kinds::SHORT_SHEET,
             kinds::BOTH_SHORT,
         ],
+        at_2_32: Some(&kinds::TAKEN),
     };
 
     fn usual() -> u64 {
@@ -135,6 +137,10 @@ impl Operation for ReadSheet {
 
     fn desk(input: &Reading, random: &mut Random) -> Result<SheetRead, String> {
         desk::read_sheet(&input.sheet, &input.area, random)
+    }
+
+    fn at_2_32(input: &Reading) -> bool {
+        places(input).at_2_32()
     }
 
     fn kinds(input: &Reading, answer: &SheetRead) -> Vec<&'static str> {
@@ -165,7 +171,12 @@ fn kinds_misplaced(places: &Places) -> Vec<&'static str> {
         None => (MODULI_DIFFER, DIFFER_TOO_HIGH),
     };
     let with_10 = places.too_high().then_some(with_10);
-    [kind].into_iter().chain(with_10).collect()
+    let some_at_2_32 = places.moduli_differ() && places.at_2_32();
+    [kind]
+        .into_iter()
+        .chain(with_10)
+        .chain(some_at_2_32.then_some(SOME_AT_2_32))
+        .collect()
 }
 
 fn kinds_of_records(sheet: &[u8]) -> Vec<&'static str> {
@@ -175,7 +186,6 @@ fn kinds_of_records(sheet: &[u8]) -> Vec<&'static str> {
         match (first, last) {
             (0..4, 0..4) => Some(MODULUS_ONLY),
             (511, _) => Some(LAST_BYTE_ONLY),
-            (4.., _) => Some(NO_MODULUS),
             _ => None,
         }
     };
@@ -235,7 +245,7 @@ fn taken(input: &Reading) -> SheetRead {
     let places = places(input);
     SheetRead {
         refused: Refused::ANSWERED,
-        modulus: places.modulus(),
+        modulus: places.modulus().word(),
         f: places.composed(),
         area: places.in_area(&input.area),
     }
@@ -298,7 +308,8 @@ fn scattered(random: &mut Random) -> Reading {
     input
 }
 
-// The worked cases, written down from 01's figures and not computed.
+// The worked cases, written down from the figures of 01 and of `worked_sheets`
+// and not computed.
 
 fn case(taken: &TakenSheet) -> Worked<Reading, SheetRead> {
     let area = vec![0xDEAD_BEEF; 800];
@@ -324,7 +335,7 @@ fn case_refused(
     refused: Refused,
 ) -> Worked<Reading, SheetRead> {
     let record = |&(modulus, f): &(u32, &[u32])| {
-        let f = Polynomial::of(f);
+        let (modulus, f) = (Modulus::of_word(modulus), Polynomial::of(f));
         Record { modulus, f }.bytes()
     };
     let records: Vec<Vec<u8>> = records.iter().map(record).collect();
@@ -358,6 +369,7 @@ fn worked_cases() -> Vec<Worked<Reading, SheetRead>> {
     let fourth: (u32, &[u32]) = (101, &[0, 0, 0, 0, 1]);
     let x_plus_1: (u32, &[u32]) = (101, &[1, 1]);
     let other: (u32, &[u32]) = (103, &[0, 0, 1]);
+    let words: (u32, &[u32]) = (0, &[0, 0, 0, 1]);
     let (none, no): ((u32, &[u32]), _) = ((0, &[]), Refused::plain);
     let at = |number, place: u32| Refused::about(number, 16 + place);
     let mut cases: Vec<_> = worked_sheets::taken().iter().map(case).collect();
@@ -371,7 +383,14 @@ fn worked_cases() -> Vec<Worked<Reading, SheetRead>> {
         case_refused("2^7", &[fourth, fourth, fourth, square], no(10)),
         case_refused("gap, then x + 1", &[square, none, x_plus_1], at(3, 2)),
         case_refused("modulus only", &[square, (101, &[])], at(3, 1)),
-        case_refused("no modulus", &[square, (0, &[0, 0, 1])], no(1)),
+        // Request No. 3: the word 0 is a modulus, and 512 zero bytes are no record.
+        case_refused("moduli 101 and 2^32", &[square, words], no(12)),
+        case_refused("moduli 2^32 and 101", &[words, square], no(12)),
+        case_refused("gap at 2^32", &[words, none, words], no(12)),
+        case_refused("x + 1 at 2^32", &[words, (0, &[1, 1])], at(3, 1)),
+        case_refused("-x^2 at 2^32", &[(0, &[0, 0, u32::MAX])], at(4, 0)),
+        case_refused("2^7 at 2^32", &[words; 6], no(10)),
+        case_refused("m 4294967295", &[(u32::MAX, &[0, 0, 1])], no(1)),
         case_refused("2x^2 by its m", &[other, (101, &[0, 0, 2])], at(4, 1)),
         case_refused(
             "102 by its m",

@@ -7,10 +7,11 @@ use crate::damage;
 use crate::decomposition::{pair, part_degrees};
 use crate::desk;
 use crate::inputs;
+use crate::modulus::Modulus;
 use crate::polynomial::{Polynomial, TOP_DEGREE};
 use crate::random::Random;
 use crate::refused::{Refused, FIRST};
-use crate::residue::common_factor;
+use crate::residue::shares_factor;
 use crate::shape::{self, plain_power, Shape};
 use crate::tally::Wanted;
 use crate::worked::{self, Coefficients};
@@ -36,6 +37,22 @@ const ORDER: &[Refused] = &[
     SHARING,
 ];
 
+/// At 2^32 all but the first three.
+const KINDS: [&str; 12] = [
+    inputs::PRIME,
+    inputs::PRIME_POWER,
+    inputs::SEVERAL_PRIMES,
+    "degree 126",
+    "r and s odd",
+    "r odd, s even",
+    "r = 0",
+    "r = 1",
+    "r = n",
+    "r above n",
+    "r of more than 4 bytes",
+    "r not dividing n",
+];
+
 impl Operation for Split {
     type Input = SplitAt;
     type Answer = Two;
@@ -45,18 +62,8 @@ impl Operation for Split {
         order: ORDER,
         alone: &[NO_PAIR],
         apart: &[],
-        kinds: &[
-            inputs::PRIME,
-            inputs::PRIME_POWER,
-            inputs::SEVERAL_PRIMES,
-            "degree 126",
-            "r = 0",
-            "r = 1",
-            "r = n",
-            "r above n",
-            "r of more than 4 bytes",
-            "r not dividing n",
-        ],
+        kinds: &KINDS,
+        at_2_32: Some(KINDS.split_at(3).1),
     };
 
     fn usual() -> u64 {
@@ -89,10 +96,14 @@ impl Operation for Split {
         desk::split(input.asked.m, input.asked.first(), input.r, random)
     }
 
+    fn at_2_32(input: &SplitAt) -> bool {
+        input.asked.at_2_32()
+    }
+
     fn kinds(input: &SplitAt, answer: &Two) -> Vec<&'static str> {
         let n = input.asked.degrees()[0];
         match answer.refused {
-            Refused::ANSWERED => kinds_answered(n, input.asked.m),
+            Refused::ANSWERED => kinds_answered(n, input.r, input.asked.m),
             UNFIT => kinds_unfit(n, input.r),
             _ => Vec::new(),
         }
@@ -103,10 +114,15 @@ impl Operation for Split {
     }
 }
 
-fn kinds_answered(n: usize, m: u32) -> Vec<&'static str> {
+fn kinds_answered(n: usize, r: usize, m: Modulus) -> Vec<&'static str> {
     let highest = (n == TOP_DEGREE).then_some("degree 126");
+    let degrees = match [r, n / r].map(|degree| degree % 2) {
+        [1, 1] => Some("r and s odd"),
+        [1, 0] => Some("r odd, s even"),
+        _ => None,
+    };
     let modulus = inputs::kind_of_modulus(m);
-    modulus.into_iter().chain(highest).collect()
+    modulus.into_iter().chain(highest).chain(degrees).collect()
 }
 
 fn kinds_unfit(n: usize, r: usize) -> Vec<&'static str> {
@@ -129,7 +145,7 @@ pub fn refusals_due(input: &SplitAt) -> Vec<Refused> {
     if r < 2 || !n.is_multiple_of(r) || n / r < 2 {
         due.push(UNFIT);
     }
-    if common_factor(r as u64, u64::from(input.asked.m)) > 1 {
+    if shares_factor(r as u64, input.asked.m) {
         due.push(SHARING);
     }
     due
@@ -264,7 +280,8 @@ fn at_every_r(place: u64, random: &mut Random) -> SplitAt {
     SplitAt { asked, r }
 }
 
-// The worked cases. Their answers are written down from 01 and not computed.
+// The worked cases. Their answers are written down from 01, or from `worked` at
+// 2^32, and not computed.
 
 fn case(
     name: &'static str,
@@ -272,7 +289,7 @@ fn case(
     r: usize,
     answer: Two,
 ) -> Worked<SplitAt, Two> {
-    let asked = Asked::one(m, Polynomial::of(f));
+    let asked = Asked::one(Modulus::of_word(m), Polynomial::of(f));
     Worked {
         name,
         input: SplitAt { asked, r },
@@ -287,6 +304,7 @@ fn worked_cases() -> Vec<Worked<SplitAt, Two>> {
     let square: Coefficients = &[0, 0, 1];
     let fourth: Coefficients = &[0, 0, 0, 0, 1];
     let (top, too_high) = (2_147_483_647, 2_147_483_648);
+    let both = |[g, h]: [Coefficients; 2]| pair(g, h);
     let both_squares = || pair(square, square);
     vec![
         case("A, r = 3", worked::A, 3, pair(&[10, 3, 3, 1], &[0, 1, 1])),
@@ -313,6 +331,21 @@ fn worked_cases() -> Vec<Worked<SplitAt, Two>> {
         case("G, not changed", worked::G, 2, pair(&[0, 1, 1], square)),
         case("H", worked::H, 2, no(5)),
         case("J", worked::J, 2, no(5)),
+        case("N4, r = 2", worked::N4, 2, no(5)),
+        case("N6, r = 3", worked::N6, 3, both(worked::N6_PAIR)),
+        case("N6, r = 2", worked::N6, 2, no(5)),
+        case("N9", worked::N9, 3, both(worked::N9_PAIR)),
+        case(
+            "N9, changed",
+            worked::N9_CHANGED,
+            3,
+            both(worked::N9_CHANGED_PAIR),
+        ),
+        case("N9 and x", worked::N9_AND_X, 3, no(7)),
+        case("N9, r = 2", worked::N9, 2, no(6)),
+        case("N15, r = 3", worked::N15, 3, both(worked::N15_PAIR)),
+        case("N15, r = 5", worked::N15, 5, no(7)),
+        case("m 4294967295", (u32::MAX, fourth), 2, no(1)),
         case("K, m 1", (1, fourth), 2, no(1)),
         case("K, m 2147483648", (too_high, fourth), 2, no(1)),
         case(
@@ -338,7 +371,7 @@ fn worked_cases() -> Vec<Worked<SplitAt, Two>> {
         Worked {
             name: "x^126 at r = 63",
             input: SplitAt {
-                asked: Asked::one(101, plain_power(126)),
+                asked: Asked::one(Modulus::of_word(101), plain_power(126)),
                 r: 63,
             },
             answer: Two::answered((plain_power(63), plain_power(2))),

@@ -5,8 +5,9 @@ use super::chain::{self, ChainIn, PARTS};
 use super::{Operation, Own, Worked};
 use crate::answer::Chained;
 use crate::asked::Asked;
+use crate::modulus::Modulus;
 use crate::random::Random;
-use crate::residue::common_factor;
+use crate::residue::shares_factor;
 use crate::tally::Wanted;
 use crate::tiny::{self, List, Size};
 use std::sync::OnceLock;
@@ -15,7 +16,7 @@ pub struct TinyChain;
 
 fn list() -> &'static List<Size> {
     static LIST: OnceLock<List<Size>> = OnceLock::new();
-    let takes = |size: &&Size| common_factor(u64::from(size.0), size.1 as u64) == 1;
+    let takes = |size: &&Size| !shares_factor(size.1 as u64, Modulus::of_word(size.0));
     let block = |&size: &Size| (size, tiny::count(size));
     LIST.get_or_init(|| List::of(tiny::SPLIT.iter().filter(takes).map(block)))
 }
@@ -30,6 +31,7 @@ impl Operation for TinyChain {
         alone: &[],
         apart: &[],
         kinds: &[PARTS[0], PARTS[1]],
+        at_2_32: None,
     };
 
     fn usual() -> u64 {
@@ -47,7 +49,7 @@ impl Operation for TinyChain {
 
     fn input(index: u64, random: &mut Random) -> ChainIn {
         let (size, number) = list().at(index);
-        let asked = Asked::one(size.0, tiny::monic(size, number));
+        let asked = Asked::one(Modulus::of_word(size.0), tiny::monic(size, number));
         let area = chain::any_area(false, random);
         ChainIn { asked, area }
     }

@@ -6,6 +6,7 @@ use crate::answer::One;
 use crate::asked::Asked;
 use crate::decomposition::{self, part_degrees};
 use crate::inputs::choose;
+use crate::modulus::Modulus;
 use crate::random::Random;
 use crate::tally::Wanted;
 use crate::tiny::{self, List, Size};
@@ -37,6 +38,7 @@ impl Operation for TinyLeftPart {
         alone: &[NO_LEFT_PART],
         apart: &[],
         kinds: &[],
+        at_2_32: None,
     };
 
     fn usual() -> u64 {
@@ -56,7 +58,7 @@ impl Operation for TinyLeftPart {
         let (((m, n), s), mut number) = list().at(index);
         let h = tiny::monic((m, s), choose(&mut number, tiny::count((m, s))));
         let f = tiny::monic((m, n), number);
-        Asked::two(m, f, h)
+        Asked::two(Modulus::of_word(m), f, h)
     }
 
     fn own(asked: &Asked) -> Own<One> {

@@ -5,6 +5,7 @@ use super::{split, Operation, Own, Worked};
 use crate::answer::Two;
 use crate::asked::Asked;
 use crate::decomposition::{self, part_degrees};
+use crate::modulus::Modulus;
 use crate::random::Random;
 use crate::tally::Wanted;
 use crate::tiny::{self, List, Size};
@@ -35,6 +36,7 @@ impl Operation for TinySplit {
         alone: &[NO_PAIR],
         apart: &[],
         kinds: &[],
+        at_2_32: None,
     };
 
     fn usual() -> u64 {
@@ -52,7 +54,7 @@ impl Operation for TinySplit {
 
     fn input(index: u64, _random: &mut Random) -> SplitAt {
         let ((size, r), number) = list().at(index);
-        let asked = Asked::one(size.0, tiny::monic(size, number));
+        let asked = Asked::one(Modulus::of_word(size.0), tiny::monic(size, number));
         SplitAt { asked, r }
     }
 

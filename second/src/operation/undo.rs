@@ -6,15 +6,16 @@ use crate::change::{self, Change};
 use crate::damage;
 use crate::desk;
 use crate::inputs;
+use crate::modulus::{Modulus, WHOLE_WORDS};
 use crate::random::Random;
 use crate::refused::Refused;
-use crate::residue::{inverse, TOP_MODULUS};
+use crate::residue::inverse;
 use crate::tally::Wanted;
 
 pub struct Undo;
 
 /// m and (a, b).
-pub type Input = (u32, Change);
+pub type Input = (Modulus, Change);
 
 pub const BAD_MODULUS: Refused = Refused::plain(1);
 pub const BAD_CHANGE: Refused = Refused::plain(8);
@@ -29,6 +30,7 @@ impl Operation for Undo {
         alone: &[],
         apart: &[],
         kinds: &["a too large, or b", "a without an inverse"],
+        at_2_32: Some(&["a without an inverse"]),
     };
 
     fn usual() -> u64 {
@@ -56,8 +58,12 @@ impl Operation for Undo {
         desk::undo(*m, *change, random)
     }
 
+    fn at_2_32((m, _): &Input) -> bool {
+        *m == WHOLE_WORDS
+    }
+
     fn kinds((m, change): &Input, answer: &Changed) -> Vec<&'static str> {
-        let too_large = change.iter().any(|number| number >= m);
+        let too_large = change.iter().any(|&number| !m.is_above(number));
         match answer.refused {
             BAD_CHANGE if too_large => vec!["a too large, or b"],
             BAD_CHANGE => vec!["a without an inverse"],
@@ -71,35 +77,33 @@ impl Operation for Undo {
 }
 
 /// "The undoing of (a, b) is (1/a, -b/a)", in whole numbers with their signs.
-fn undone(m: u32, [a, b]: Change) -> Change {
+fn undone(m: Modulus, [a, b]: Change) -> Change {
     let one_ath = inverse(a, m).expect("a has an inverse");
     let turned = -i128::from(b) * i128::from(one_ath);
-    [one_ath, turned.rem_euclid(i128::from(m)) as u32]
+    [one_ath, turned.rem_euclid(i128::from(m.number())) as u32]
 }
 
 // What combining needs as well.
 
 /// "Combining tests 1, then 8 for the first change, then the second; undoing
 /// tests 1, then 8."
-pub fn refusals_due(m: u32, changes: &[Change]) -> Vec<Refused> {
-    let bad_modulus = !(2..=TOP_MODULUS).contains(&m);
+pub fn refusals_due(m: Modulus, changes: &[Change]) -> Vec<Refused> {
     let bad_change = changes.iter().any(|&change| change::refused(change, m));
     let mut due = Vec::new();
-    due.extend(bad_modulus.then_some(BAD_MODULUS));
+    due.extend((!m.taken()).then_some(BAD_MODULUS));
     due.extend(bad_change.then_some(BAD_CHANGE));
     due
 }
 
-pub fn any_modulus(lines: &[Refused], random: &mut Random) -> u32 {
+pub fn any_modulus(lines: &[Refused], random: &mut Random) -> Modulus {
     if lines.contains(&BAD_MODULUS) {
         return damage::spoiled_modulus(random);
     }
     inputs::modulus(random)
 }
 
-pub fn any_change(m: u32, bad: bool, random: &mut Random) -> Change {
-    // No change is taken modulo 0 or 1.
-    if bad || m < 2 {
+pub fn any_change(m: Modulus, bad: bool, random: &mut Random) -> Change {
+    if bad {
         return damage::spoiled_change(m, random);
     }
     inputs::change(random, m)
@@ -111,7 +115,7 @@ pub fn any_change(m: u32, bad: bool, random: &mut Random) -> Change {
 fn case(name: &'static str, m: u32, change: Change, answer: Changed) -> Worked<Input, Changed> {
     Worked {
         name,
-        input: (m, change),
+        input: (Modulus::of_word(m), change),
         answer,
     }
 }
@@ -124,6 +128,23 @@ fn worked_cases() -> Vec<Worked<Input, Changed>> {
         case("(1, 0)", 4, [1, 0], Changed::answered([1, 0])),
         // The inverse of 3 modulo 4 is 3 (as in D), and -2·3 is 2.
         case("modulo 4", 4, [3, 2], Changed::answered([3, 2])),
+        // 3·2863311531 is 2·2^32 + 1, and 3·2863311529 is 2·2^32 - 5.
+        case(
+            "2^32",
+            0,
+            [3, 5],
+            Changed::answered([2_863_311_531, 2_863_311_529]),
+        ),
+        // (2^31 - 1)^2 is 2^62 - 2^32 + 1, and -(-1) times it is itself.
+        case(
+            "2^32, (2^31 - 1, -1)",
+            0,
+            [2_147_483_647, u32::MAX],
+            Changed::answered([2_147_483_647, 2_147_483_647]),
+        ),
+        case("2^32, a = 2", 0, [2, 0], no(8)),
+        case("2^32, a = 0", 0, [0, 1], no(8)),
+        case("m 4294967295", u32::MAX, [1, 0], no(1)),
         case("no inverse", 4, [2, 0], no(8)),
         case("a = m", 101, [101, 0], no(8)),
         case("b = m", 101, [1, 101], no(8)),

@@ -8,6 +8,7 @@ use crate::damage;
 use crate::desk;
 use crate::inputs::{PRIME, PRIME_POWER, SEVERAL_PRIMES};
 use crate::lent::garbage;
+use crate::modulus::{Modulus, WHOLE_WORDS};
 use crate::polynomial::{Polynomial, PLACES};
 use crate::random::Random;
 use crate::refused::{at_place, Refused, FIRST};
@@ -20,7 +21,7 @@ pub struct WriteSheet;
 
 /// The sheet is as the caller lends it.
 pub struct Writing {
-    pub m: u32,
+    pub m: Modulus,
     pub area: Vec<u32>,
     pub sheet: Vec<u8>,
 }
@@ -99,6 +100,7 @@ impl Operation for WriteSheet {
             kinds::SHORT_SHEET,
             kinds::BOTH_SHORT,
         ],
+        at_2_32: Some(&kinds::TAKEN),
     };
 
     fn usual() -> u64 {
@@ -130,6 +132,10 @@ impl Operation for WriteSheet {
 
     fn desk(input: &Writing, random: &mut Random) -> Result<Written, String> {
         desk::write_sheet(input.m, &input.area, &input.sheet, random)
+    }
+
+    fn at_2_32(input: &Writing) -> bool {
+        input.m == WHOLE_WORDS
     }
 
     fn kinds(input: &Writing, answer: &Written) -> Vec<&'static str> {
@@ -200,7 +206,7 @@ fn refusals_due(input: &Writing) -> Vec<Refused> {
 
 // The inputs.
 
-fn lent(m: u32, places: &Places, lengths: Lengths, random: &mut Random) -> Writing {
+fn lent(m: Modulus, places: &Places, lengths: Lengths, random: &mut Random) -> Writing {
     let area = chains::garbage_words(lengths.area.max(AREA_WORDS), random);
     let mut area = places.in_area(&area);
     area.truncate(lengths.area);
@@ -222,7 +228,7 @@ fn by_lines(lines: &[Refused], random: &mut Random) -> Writing {
 }
 
 /// Gives the modulus, spoiled or not.
-fn spoil(places: &mut Places, m: u32, lines: &[Refused], random: &mut Random) -> u32 {
+fn spoil(places: &mut Places, m: Modulus, lines: &[Refused], random: &mut Random) -> Modulus {
     let mut of_parts = lines.to_vec();
     for (which, (place, _)) in (FIRST..).zip(places.used()) {
         of_parts.extend(chains::about_place(lines, place, which));
@@ -246,7 +252,7 @@ fn scattered(random: &mut Random) -> Writing {
     match random.below(8) {
         0 => {
             let word = random.between(0, AREA_WORDS - 1);
-            input.area[word] = random.pick(&[0, 1, 256, input.m, any]);
+            input.area[word] = random.pick(&[0, 1, 256, input.m.word(), any]);
         }
         1 | 2 => {
             let place = random.between(0, TOP_PARTS - 1);
@@ -267,7 +273,8 @@ fn one_word(place: &mut [u32], random: &mut Random) {
     place[at] = random.pick(&[1, 2, 1 << 24, any]);
 }
 
-// The worked cases, written down from 01's figures and not computed.
+// The worked cases, written down from the figures of 01 and of `worked_sheets`
+// and not computed.
 
 fn case(taken: &TakenSheet) -> Worked<Writing, Written> {
     let garbage = vec![0xEE; 3_100];
@@ -278,7 +285,7 @@ fn case(taken: &TakenSheet) -> Worked<Writing, Written> {
             sheet: taken.sheet(&garbage),
         },
         input: Writing {
-            m: taken.whole.0,
+            m: Modulus::of_word(taken.whole.0),
             area: taken.area(&[0xDEAD_BEEF; 800]),
             sheet: garbage,
         },
@@ -299,7 +306,7 @@ fn case_refused(
             sheet: sheet.clone(),
         },
         input: Writing {
-            m,
+            m: Modulus::of_word(m),
             area: worked_sheets::area(places, &[0; 762]),
             sheet,
         },
@@ -316,7 +323,7 @@ fn case_short(name: &'static str, words: usize, bytes: usize) -> Worked<Writing,
             sheet: sheet.clone(),
         },
         input: Writing {
-            m: 1,
+            m: Modulus::of_word(1),
             area: vec![1; words],
             sheet,
         },
@@ -332,6 +339,10 @@ fn worked_cases() -> Vec<Worked<Writing, Written>> {
     cases.extend([
         case_refused("K, m 1", 1, &[none, square], no(1)),
         case_refused("K, m 2147483648", 2_147_483_648, &[square], no(1)),
+        case_refused("m 4294967295", u32::MAX, &[square], no(1)),
+        case_refused("no part at 2^32", 0, &[], no(12)),
+        case_refused("gap at 2^32", 0, &[square, none, square], no(12)),
+        case_refused("-x^2 at 2^32", 0, &[square, &[0, 0, u32::MAX]], at(4, 1)),
         case_refused("no part", 101, &[], no(12)),
         case_refused("place 0 not used", 101, &[none, square], no(12)),
         case_refused("gap, and x + 1", 101, &[x_plus_1, none, square], no(12)),

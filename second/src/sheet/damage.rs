@@ -3,11 +3,11 @@
 use super::{inputs, Places};
 use crate::asked::Asked;
 use crate::damage;
+use crate::modulus::Modulus;
 use crate::polynomial::Polynomial;
 use crate::random::Random;
 use crate::record::{Record, RECORD_BYTES};
 use crate::refused::Refused;
-use crate::residue::TOP_MODULUS;
 
 /// Makes those of the lines due that are about the record at this place, by
 /// its own modulus.
@@ -22,33 +22,36 @@ pub fn spoil(place: &mut Option<Record>, lines: &[Refused], random: &mut Random)
 /// One record gets another modulus, or each does; each part is taken by its
 /// own.
 pub fn part_the_moduli(places: &mut Places, random: &mut Random) {
-    let first = places.modulus();
     let one = random.between(0, places.used().count().max(1) - 1);
     let all = random.once_in(4);
     for (index, record) in places.0.iter_mut().flatten().enumerate() {
         if all || index == one {
             let n = record.f.degree().expect("the parts are taken");
-            let modulus = other_modulus(first, random);
+            let modulus = other_modulus(record.modulus, random);
             let f = inputs::part(n, modulus, random);
             *record = Record { modulus, f };
         }
     }
 }
 
-/// Often one that looks the same when only some of its bytes are looked at.
-fn other_modulus(m: u32, random: &mut Random) -> u32 {
+/// Often one that looks the same when only some of its bytes are looked at, or
+/// 2^32, which looks like none.
+fn other_modulus(m: Modulus, random: &mut Random) -> Modulus {
     loop {
-        let any = inputs::modulus(random);
-        let other = random.pick(&[m - 1, m + 1, m ^ 256, m ^ 1 << 16, m ^ 1 << 24, any, any]);
-        if other != m && (2..=TOP_MODULUS).contains(&other) {
+        let (word, any) = (m.word(), inputs::modulus(random).word());
+        let nearby = [word.wrapping_sub(1), word.wrapping_add(1)];
+        let alike = [256, 1 << 16, 1 << 24].map(|bit| word ^ bit);
+        let words = [&nearby[..], &alike, &[0, any, any]].concat();
+        let other = Modulus::of_word(random.pick(&words));
+        if other != m && other.taken() {
             return other;
         }
     }
 }
 
 /// A record with one byte that is not zero, or with its modulus only: it is
-/// used.
-pub fn faint(record: &mut [u8], modulus: u32, random: &mut Random) {
+/// used, but for a modulus of 2^32 only, which is 512 zero bytes.
+pub fn faint(record: &mut [u8], modulus: Modulus, random: &mut Random) {
     let any = random.between(0, RECORD_BYTES - 1);
     let byte = random.pick(&[0, 3, 4, RECORD_BYTES - 1, RECORD_BYTES - 1, any]);
     let f = Polynomial::ZERO;

@@ -7,12 +7,12 @@ use crate::damage;
 use crate::decomposition::part_degrees;
 use crate::inputs;
 use crate::lent::garbage;
+use crate::modulus::{Modulus, TOP_WORD};
 use crate::operation::chain::area_length;
 use crate::polynomial::{Polynomial, TOP_DEGREE};
 use crate::random::Random;
 use crate::record::{Record, RECORD_BYTES};
 use crate::refused::{at_place, Refused};
-use crate::residue::TOP_MODULUS;
 use crate::shape::{chain_degrees, plain_power};
 
 // What is wanted.
@@ -107,11 +107,11 @@ fn named(lines: &[Refused]) -> Used {
 
 // The parts.
 
-/// The ends of the range more often than elsewhere: they are two of the kinds
-/// that have to be met.
-pub fn modulus(random: &mut Random) -> u32 {
+/// The ends of the range of words more often than elsewhere: they are two of the
+/// kinds that have to be met.
+pub fn modulus(random: &mut Random) -> Modulus {
     match random.below(8) {
-        0 => random.pick(&[2, TOP_MODULUS]),
+        0 => Modulus::of_word(random.pick(&[2, TOP_WORD])),
         _ => inputs::modulus(random),
     }
 }
@@ -126,7 +126,7 @@ pub fn taken(random: &mut Random) -> Places {
 
 /// Parts that are taken, at these places, with a composed degree of 126 at
 /// most, or above it.
-pub fn parts_at(used: Used, too_high: bool, modulus: u32, random: &mut Random) -> Places {
+pub fn parts_at(used: Used, too_high: bool, modulus: Modulus, random: &mut Random) -> Places {
     let count = used.iter().filter(|&&used| used).count();
     let degrees = match too_high && count > 1 {
         true => degrees_too_high(count, random),
@@ -146,7 +146,7 @@ pub fn parts_at(used: Used, too_high: bool, modulus: u32, random: &mut Random) -
 }
 
 /// Any part: also a plain power, and such as split further.
-pub fn part(n: usize, m: u32, random: &mut Random) -> Polynomial {
+pub fn part(n: usize, m: Modulus, random: &mut Random) -> Polynomial {
     let fitting: Vec<usize> = part_degrees(n).collect();
     match random.below(8) {
         0 => plain_power(n),

@@ -6,9 +6,10 @@ use super::Places;
 use crate::answer::{AREA_WORDS, SHEET_BYTES};
 use crate::decomposition::{pair, part_degrees};
 use crate::inputs;
+use crate::modulus::{Modulus, TOP_WORD};
 use crate::operation::chain::PARTS;
 use crate::polynomial::{Polynomial, TOP_DEGREE};
-use crate::residue::{common_factor, TOP_MODULUS};
+use crate::residue::shares_factor;
 
 pub const NO_AREA: &str = "area of no words";
 pub const SHORT_AREA: &str = "area of 761 words";
@@ -81,14 +82,20 @@ pub const SPLITS: &str = "a part that splits further";
 pub const LOWEST_MODULUS: &str = "m 2";
 pub const HIGHEST_MODULUS: &str = "m 2147483647";
 
+/// What a chain that is taken can be, at 2^32 too.
+pub const TAKEN: [&str; 10] = [
+    PARTS[0], PARTS[1], PARTS[2], PARTS[3], PARTS[4], PARTS[5], NORMAL, NOT_NORMAL, SPLITS,
+    DEGREE_126,
+];
+
 /// Of a chain that is taken.
 pub fn of_chain(places: &Places) -> Vec<&'static str> {
     let (parts, m) = (places.parts(), places.modulus());
     let highest = places.composed_degree() == TOP_DEGREE;
     let splits = parts.iter().any(|part| splits(part, m));
-    let modulus = match m {
+    let modulus = match m.word() {
         2 => Some(LOWEST_MODULUS),
-        TOP_MODULUS => Some(HIGHEST_MODULUS),
+        TOP_WORD => Some(HIGHEST_MODULUS),
         _ => inputs::kind_of_modulus(m),
     };
     [PARTS[parts.len() - 1]]
@@ -107,9 +114,9 @@ fn of_constants(parts: &[Polynomial]) -> Option<&'static str> {
 }
 
 /// By this program's own split; only for low degrees, so that it costs little.
-fn splits(part: &Polynomial, m: u32) -> bool {
+fn splits(part: &Polynomial, m: Modulus) -> bool {
     let n = part.degree().unwrap_or(0);
-    let has_inverse = |r: &usize| common_factor(*r as u64, u64::from(m)) == 1;
+    let has_inverse = |r: &usize| !shares_factor(*r as u64, m);
     let mut fitting = part_degrees(n).filter(has_inverse);
     n <= 10 && fitting.any(|r| pair(part, r, m).is_some())
 }
