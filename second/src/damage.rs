@@ -4,7 +4,7 @@
 use crate::asked::Asked;
 use crate::change::Change;
 use crate::inputs::{self, LOOK_SMALL};
-use crate::modulus::{Modulus, TOP_WORD};
+use crate::modulus::{Modulus, TOP_WORD, WHOLE_WORDS};
 use crate::polynomial::{Polynomial, TOP_DEGREE};
 use crate::random::Random;
 use crate::refused::{Refused, FIRST};
@@ -147,11 +147,13 @@ fn offending_value(m: Modulus, random: &mut Random) -> u32 {
 /// is known.
 pub fn spoiled_change(m: Modulus, random: &mut Random) -> Change {
     let [a, b] = inputs::change(random, m);
-    match random.below(4) {
-        0 => [a, offending_value(m, random)],
-        1 => [offending_value(m, random), b],
-        2 => [0, b],
-        _ => [without_inverse(m, random), b],
+    // No word is too large at 2^32.
+    let ways = if m == WHOLE_WORDS { 2 } else { 4 };
+    match random.below(ways) {
+        0 => [0, b],
+        1 => [without_inverse(m, random), b],
+        2 => [a, offending_value(m, random)],
+        _ => [offending_value(m, random), b],
     }
 }
 

@@ -9,7 +9,7 @@ const ENOUGH: u64 = 10_000;
 
 /// So many inputs each operation gets then, whatever its share: they suffice to
 /// meet everything.
-const FEWEST: u64 = 1_000;
+const FEWEST: u64 = 3_000;
 
 /// How much to compare.
 pub struct Run {

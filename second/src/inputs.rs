@@ -87,9 +87,9 @@ pub fn choose(combination: &mut u64, of: u64) -> u64 {
 
 // Moduli.
 
-/// Any m; once in seven it is 2^32.
+/// Any m; once in six it is 2^32.
 pub fn modulus(random: &mut Random) -> Modulus {
-    match random.once_in(7) {
+    match random.once_in(6) {
         true => WHOLE_WORDS,
         false => Modulus::of_word(word(random)),
     }
@@ -114,7 +114,7 @@ fn small_word(random: &mut Random) -> u32 {
 /// m that shares no factor above 1 with the number, which is not 0. For an odd
 /// one it is often 2^32, since for an even one it cannot be.
 pub fn modulus_without(number: usize, random: &mut Random) -> Modulus {
-    if !number.is_multiple_of(2) && random.once_in(3) {
+    if !number.is_multiple_of(2) && random.below(5) < 2 {
         return WHOLE_WORDS;
     }
     loop {
@@ -131,7 +131,7 @@ pub fn modulus_without(number: usize, random: &mut Random) -> Modulus {
 
 /// m that shares a factor above 1 with the number, which is at least 2.
 pub fn modulus_sharing(number: usize, random: &mut Random) -> Modulus {
-    if number.is_multiple_of(2) && random.once_in(6) {
+    if number.is_multiple_of(2) && random.once_in(3) {
         return WHOLE_WORDS;
     }
     let divides = |d: &usize| number.is_multiple_of(*d);

@@ -12,7 +12,7 @@
 //!
 //! N inputs are compared over all operations, after the worked cases of 01.
 //! Each operation gets its share of them, the cheaper ones more; without N it
-//! is what the operation calls usual, and with 10000 or more at least 1000, so
+//! is what the operation calls usual, and with 10000 or more at least 3000, so
 //! that there may be more than N. An input depends on the seed (1 if not
 //! given), the operation and its index only, so a difference at input I is met
 //! again by `--seed S --only NAME --inputs N` with N above I.

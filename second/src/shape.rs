@@ -100,7 +100,11 @@ fn chain(random: &mut Random) -> Shape {
 /// Of an odd degree, which few others have: at 2^32 there is no other chain.
 fn odd(random: &mut Random) -> Shape {
     let count = random.between(2, 4);
-    let degrees = odd_degrees(count, random);
+    let mut degrees = odd_degrees(count, random);
+    // With the highest rightmost a round begins again below the last s.
+    if random.once_in(2) {
+        degrees.sort_unstable();
+    }
     let n = degrees.iter().product();
     let is_odd = |shape: &Shape| !shape.degree().is_multiple_of(2);
     match random.below(8) {

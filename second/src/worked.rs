@@ -23,7 +23,7 @@ pub const J: (u32, Coefficients) = (2, &[0, 0, 1, 0, 1]);
 // At 2^32 the modulus word is 0. The figures were worked out in whole numbers
 // and reduced at the end, with no line of this program.
 
-/// What cubic polynomials compose to.
+/// What two cubic polynomials compose to.
 pub const N9: (u32, Coefficients) = (
     0,
     &[

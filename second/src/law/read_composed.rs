@@ -21,7 +21,7 @@ impl Law for ReadComposed {
         alone: &[],
         apart: &[],
         kinds: &kinds::TAKEN,
-        at_2_32: Some(&kinds::TAKEN),
+        at_2_32: Some(kinds::TAKEN_AT_2_32),
     };
     const ONE_WAY: &'static str = "composed from the right";
     const OTHER_WAY: &'static str = "read";

@@ -22,7 +22,7 @@ impl Law for ReadWritten {
         alone: &[],
         apart: &[],
         kinds: &kinds::TAKEN,
-        at_2_32: Some(&kinds::TAKEN),
+        at_2_32: Some(kinds::TAKEN_AT_2_32),
     };
     const ONE_WAY: &'static str = "the sheet";
     const OTHER_WAY: &'static str = "read and written";

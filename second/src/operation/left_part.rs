@@ -33,6 +33,7 @@ const ORDER: &[Refused] = &[
     UNFIT,
 ];
 
+/// At 2^32 the first three.
 const KINDS: [&str; 6] = [
     "left part, h(0) zero",
     "left part, h(0) not zero",
@@ -52,7 +53,7 @@ impl Operation for LeftPart {
         alone: &[NO_LEFT_PART],
         apart: &[],
         kinds: &KINDS,
-        at_2_32: Some(&KINDS),
+        at_2_32: Some(KINDS.split_at(3).0),
     };
 
     fn usual() -> u64 {

@@ -112,7 +112,7 @@ impl Operation for ReadSheet {
             kinds::SHORT_SHEET,
             kinds::BOTH_SHORT,
         ],
-        at_2_32: Some(&kinds::TAKEN),
+        at_2_32: Some(kinds::TAKEN_AT_2_32),
     };
 
     fn usual() -> u64 {

@@ -37,21 +37,9 @@ const ORDER: &[Refused] = &[
     SHARING,
 ];
 
-/// At 2^32 all but the first three.
-const KINDS: [&str; 12] = [
-    inputs::PRIME,
-    inputs::PRIME_POWER,
-    inputs::SEVERAL_PRIMES,
-    "degree 126",
-    "r and s odd",
-    "r odd, s even",
-    "r = 0",
-    "r = 1",
-    "r = n",
-    "r above n",
-    "r of more than 4 bytes",
-    "r not dividing n",
-];
+const HIGHEST: &str = "degree 126";
+const BOTH_ODD: &str = "r and s odd";
+const RIGHT_EVEN: &str = "r odd, s even";
 
 impl Operation for Split {
     type Input = SplitAt;
@@ -62,8 +50,21 @@ impl Operation for Split {
         order: ORDER,
         alone: &[NO_PAIR],
         apart: &[],
-        kinds: &KINDS,
-        at_2_32: Some(KINDS.split_at(3).1),
+        kinds: &[
+            inputs::PRIME,
+            inputs::PRIME_POWER,
+            inputs::SEVERAL_PRIMES,
+            HIGHEST,
+            BOTH_ODD,
+            RIGHT_EVEN,
+            "r = 0",
+            "r = 1",
+            "r = n",
+            "r above n",
+            "r of more than 4 bytes",
+            "r not dividing n",
+        ],
+        at_2_32: Some(&[HIGHEST, BOTH_ODD, RIGHT_EVEN]),
     };
 
     fn usual() -> u64 {
@@ -115,10 +116,10 @@ impl Operation for Split {
 }
 
 fn kinds_answered(n: usize, r: usize, m: Modulus) -> Vec<&'static str> {
-    let highest = (n == TOP_DEGREE).then_some("degree 126");
+    let highest = (n == TOP_DEGREE).then_some(HIGHEST);
     let degrees = match [r, n / r].map(|degree| degree % 2) {
-        [1, 1] => Some("r and s odd"),
-        [1, 0] => Some("r odd, s even"),
+        [1, 1] => Some(BOTH_ODD),
+        [1, 0] => Some(RIGHT_EVEN),
         _ => None,
     };
     let modulus = inputs::kind_of_modulus(m);

@@ -82,11 +82,13 @@ pub const SPLITS: &str = "a part that splits further";
 pub const LOWEST_MODULUS: &str = "m 2";
 pub const HIGHEST_MODULUS: &str = "m 2147483647";
 
-/// What a chain that is taken can be, at 2^32 too.
+/// What a chain that is taken can be.
 pub const TAKEN: [&str; 10] = [
-    PARTS[0], PARTS[1], PARTS[2], PARTS[3], PARTS[4], PARTS[5], NORMAL, NOT_NORMAL, SPLITS,
-    DEGREE_126,
+    PARTS[0], PARTS[1], PARTS[2], PARTS[3], PARTS[4], PARTS[5], NORMAL, NOT_NORMAL, DEGREE_126,
+    SPLITS,
 ];
+/// All but the last, which few are there.
+pub const TAKEN_AT_2_32: &[&str] = TAKEN.split_at(9).0;
 
 /// Of a chain that is taken.
 pub fn of_chain(places: &Places) -> Vec<&'static str> {
