@@ -1,10 +1,10 @@
 //! Sums and products modulo m, of numbers that are below m.
 //!
 //! Modulo 2^32 nothing is reduced: a machine word is the number modulo 2^32, so
-//! sums, differences and products run round in it, and an inverse comes bit by
-//! bit from the lowest. It is the shortest way there, and it shares no line
-//! with the others, which are held against it: combine and undo go by whole
-//! numbers at every modulus.
+//! sums, differences and products run round in it, and an inverse comes from
+//! its lowest bits up. It is the shortest way there, and shares no line with the
+//! other moduli. (Combine and undo go by whole numbers at every modulus, so that
+//! the desk is held against both ways.)
 
 use crate::modulus::{Modulus, WHOLE_WORDS};
 

@@ -89,7 +89,7 @@ impl Operation for Check {
             (1, 1) => M_1,
             (1, ABOVE) => M_2_31,
             (1, u32::MAX) => M_LARGEST,
-            (3, 0) if bytes.iter().all(|&byte| byte == 0) => ZERO_BYTES,
+            (3, _) if bytes.iter().all(|&byte| byte == 0) => ZERO_BYTES,
             _ => return Vec::new(),
         };
         vec![kind]

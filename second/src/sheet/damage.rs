@@ -3,7 +3,7 @@
 use super::{inputs, Places};
 use crate::asked::Asked;
 use crate::damage;
-use crate::modulus::Modulus;
+use crate::modulus::{Modulus, WHOLE_WORDS};
 use crate::polynomial::Polynomial;
 use crate::random::Random;
 use crate::record::{Record, RECORD_BYTES};
@@ -41,7 +41,7 @@ fn other_modulus(m: Modulus, random: &mut Random) -> Modulus {
         let (word, any) = (m.word(), inputs::modulus(random).word());
         let nearby = [word.wrapping_sub(1), word.wrapping_add(1)];
         let alike = [256, 1 << 16, 1 << 24].map(|bit| word ^ bit);
-        let words = [&nearby[..], &alike, &[0, any, any]].concat();
+        let words = [&nearby[..], &alike, &[WHOLE_WORDS.word(), any, any]].concat();
         let other = Modulus::of_word(random.pick(&words));
         if other != m && other.taken() {
             return other;
