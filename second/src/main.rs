@@ -8,9 +8,9 @@
 //! than the desk: the left part by division with remainder, the right part as a
 //! root of the reversed polynomial, changes by binomials, and for tiny sizes all
 //! of it by going through all g and h. Then it holds the desk against itself, as
-//! the demands 2 and 3 say, and request No. 2 of its sheets. Of all that has a
-//! modulus one input in six to eight is at 2^32 (request No. 3), and what was met
-//! there is counted apart.
+//! the demands 2 and 3 say, and request No. 2 of its sheets. About one input in
+//! seven is at modulus 2^32 (request No. 3), and what was met there is counted
+//! apart.
 //!
 //! N inputs are compared over all operations, after the worked cases of 01 and
 //! of 2^32.

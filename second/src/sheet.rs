@@ -62,7 +62,7 @@ impl Places {
     }
 
     /// The moduli of the records at the used places, left to right.
-    pub fn moduli(&self) -> impl Iterator<Item = Modulus> + use<'_> {
+    fn moduli(&self) -> impl Iterator<Item = Modulus> + '_ {
         self.used().map(|(_, record)| record.modulus)
     }
 

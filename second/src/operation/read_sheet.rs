@@ -389,7 +389,7 @@ fn worked_cases() -> Vec<Worked<Reading, SheetRead>> {
         case_refused("gap at 2^32", &[words, none, words], no(12)),
         case_refused("x + 1 at 2^32", &[words, (0, &[1, 1])], at(3, 1)),
         case_refused("-x^2 at 2^32", &[(0, &[0, 0, u32::MAX])], at(4, 0)),
-        case_refused("2^7 at 2^32", &[words; 6], no(10)),
+        case_refused("3^6 at 2^32", &[words; 6], no(10)),
         case_refused("m 4294967295", &[(u32::MAX, &[0, 0, 1])], no(1)),
         case_refused("2x^2 by its m", &[other, (101, &[0, 0, 2])], at(4, 1)),
         case_refused(
