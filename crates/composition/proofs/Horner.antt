@@ -52,8 +52,8 @@ module _ (m c : ℕ) {s d : ℕ} {h p : List ℕ} (room : Room s d h p) where
   step k = coef (plus (c ∷ []) (times h p)) k % m
 
   -- its constant
-  pub step-first : {x : ℕ} → x ≡ (coef h 0 * coef p 0 + c * 1) % m → x ≡ step 0
-  step-first e = e ∙ ap (λ (y : ℕ). y % m) (sym (coef-plus (c ∷ []) (times h p) 0 ∙ omega (arith, coef-times-zero h p)))
+  pub step-first : {x y : ℕ} → y ≡ coef p 0 → x ≡ (coef h 0 * y + c * 1) % m → x ≡ step 0
+  step-first here e = e ∙ rw here (ap (λ (y : ℕ). y % m) (sym (coef-plus (c ∷ []) (times h p) 0 ∙ omega (arith, coef-times-zero h p))))
 
   -- and its other places
   pub step-next : (k : ℕ) {n x : ℕ} → 0 < k → n ≡ min k s + 1 → x ≡ inner h p k 0 n % m → x ≡ step k
@@ -61,8 +61,8 @@ module _ (m c : ℕ) {s d : ℕ} {h p : List ℕ} (room : Room s d h p) where
   step-next (suc k) l q e = e ∙ ap (λ (y : ℕ). y % m) (ap (inner h p (suc k) 0) q ∙ product-place (room .right) p (suc k) ∙ sym (coef-plus (c ∷ []) (times h p) (suc k) ∙ N.zero-add _))
 
   -- where h is a line, by two products
-  pub step-line : (k : ℕ) {x : ℕ} → s ≡ 1 → 0 < k → x ≡ (coef h 0 * coef p k + coef h 1 * coef p (k - 1)) % m → x ≡ step k
-  step-line k o l e = step-next k {n = 2} l (omega arith) (e ∙ ap (λ (y : ℕ). y % m) (sym (inner-more h p k 0 1 ∙ ap (λ (y : ℕ). y + coef h 1 * coef p (k - 1)) first)))
+  pub step-line : (k : ℕ) {x y z : ℕ} → s ≡ 1 → 0 < k → y ≡ coef p k → z ≡ coef p (k - 1) → x ≡ (coef h 0 * y + coef h 1 * z) % m → x ≡ step k
+  step-line k o l here before e = step-next k {n = 2} l (omega arith) (e ∙ rw (here, before) (ap (λ (y : ℕ). y % m) (sym (inner-more h p k 0 1 ∙ ap (λ (y : ℕ). y + coef h 1 * coef p (k - 1)) first))))
     where
       first : inner h p k 0 1 ≡ coef h 0 * coef p k
       first = inner-more h p k 0 0 ∙ rw (inner-none h p k 0, N.sub-zero k) (N.zero-add _)

@@ -8,6 +8,9 @@
 --   Begun n f k l             l has n entries, the first k are f's, and the others still 0
 --   begun-none, begun-more    at the start, and after one more store
 --   begun-all                 where f has nothing from k on, l is f's table already
+--   Down n f k old l          l was old, and is overwritten from the top: the entries above k are f's, the others still old's
+--   down-none, down-more      at the start, and after one more store
+--   down-all                  after the last one
 use mathlib.Core.Path.{_≡_, refl, sym, _∙_, subst}
 use mathlib.Core.Logic.{⊎-elim}
 use mathlib.Core.List.{List}
@@ -83,3 +86,34 @@ begun-all {n} {f} {k} {l} z c = filled-all {i = n} (omega arith) (record { long 
     go : (j : ℕ) → Dec (j < k) → getD l j 0 ≡ f j
     go j (yes h) = c .filled .is j h
     go j (no h) = c .rest j (omega arith) ∙ sym (z j (omega arith))
+
+-- the entries above k are f's, and the others still those of old
+pub record Down (n : ℕ) (f : ℕ → ℕ) (k : ℕ) (old l : List ℕ) : Type 0 where
+  pub long : length l ≡ n
+  pub above : (j : ℕ) → k < j → getD l j 0 ≡ f j
+  pub still : (j : ℕ) → j ≤ k → getD l j 0 ≡ getD old j 0
+
+-- before the first store
+pub down-none : {n : ℕ} {f : ℕ → ℕ} {k : ℕ} {old : List ℕ} → length old ≡ n → ((j : ℕ) → k < j → getD old j 0 ≡ f j) → Down n f k old old
+down-none h z = record { long = h; above = z; still = λ j l. refl }
+
+-- f k is stored at k
+pub down-more : {n : ℕ} {f : ℕ → ℕ} {k i x : ℕ} {old l : List ℕ} → k < n → k ≡ i + 1 → x ≡ f k → Down n f k old l → Down n f i old (set l k x)
+down-more {n} {f} {k} {i} {x} {old} {l} h e is c =
+    record {
+      long = length-set l k x ∙ c .long;
+      above = λ j b.
+          ⊎-elim
+          (λ (q : k ≡ j). rw (← q) (getD-set-same l k x 0 (subst (λ (m : ℕ). k < m) (sym (c .long)) h) ∙ is))
+          (λ (q : k < j). getD-set-other l k j x 0 (omega arith) ∙ c .above j q)
+          (eq-or-lt-of-le (omega arith));
+      still = λ j b. getD-set-other l k j x 0 (omega arith) ∙ c .still j (omega arith);
+    }
+
+-- f 0 is stored at 0
+pub down-all : {n : ℕ} {f : ℕ → ℕ} {x : ℕ} {old l : List ℕ} → 0 < n → x ≡ f 0 → Down n f 0 old l → set l 0 x ≡ table n f
+down-all {n} {f} {x} {old} {l} h is c = filled-all {i = n} (omega arith) (record { long = length-set l 0 x ∙ c .long; is = go })
+  where
+    go : (k : ℕ) → k < n → getD (set l 0 x) k 0 ≡ f k
+    go zero b = getD-set-same l 0 x 0 (subst (λ (m : ℕ). 0 < m) (sym (c .long)) h) ∙ is
+    go (suc k) b = getD-set-other l 0 (suc k) x 0 (omega arith) ∙ c .above (suc k) (omega arith)

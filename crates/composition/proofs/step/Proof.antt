@@ -1,4 +1,4 @@
-use mathlib.Core.Path.{_≡_}
+use mathlib.Core.Path.{_≡_, refl}
 use mathlib.Core.List.{[], _∷_}
 use Prim.Native.Nat.{_+_, _-_, _%_, _≤_}
 use native.Mathlib.Omega.{arith}
@@ -18,7 +18,7 @@ abbrev μ-loop : tie.MeasureT-loop
 
 loop-holds : tie.Need-loop-holds Inv-loop μ-loop
 unfolding terms limit
-loop-holds c = (omega arith, omega arith, omega arith, begun-more (omega arith) (step-first _ _ (c .before .before .before .before .before .pre .1) (c .two-products .ensures)) begun-none)
+loop-holds c = (omega arith, omega arith, omega arith, begun-more (omega arith) (step-first _ _ (c .before .before .before .before .before .pre .1) refl (c .two-products .ensures)) begun-none)
 
 inner-product-requires : tie.Need-inner-product-requires Inv-loop μ-loop
 unfolding terms limit
