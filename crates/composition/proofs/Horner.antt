@@ -27,7 +27,7 @@ use Rattle.algebra.proofs.Coefficients.{coef-plus, coef-times, coef-times-zero}
 use Rattle.algebra.proofs.Polynomials.{_⨾_, same-refl, same-sym, plus-same, times-same, after-same}
 use Rattle.algebra.proofs.Reduction.{reduced-reduced, reduced-same, reduced-place, reduced-equal, reduced-above}
 use Rattle.residue.specs.Residue.{inner}
-use Rattle.residue.proofs.Inner.{inner-none, inner-more}
+use Rattle.residue.proofs.Inner.{inner-none, inner-more, inner-extensional}
 use Rattle.polynomial.proofs.Filling.{zeros}
 use Rattle.composition.specs.Composition.{composition, Ends, Composable, Room}
 
@@ -55,17 +55,19 @@ module _ (m c : ℕ) {s d : ℕ} {h p : List ℕ} (room : Room s d h p) where
   pub step-first : {x y : ℕ} → y ≡ coef p 0 → x ≡ (coef h 0 * y + c * 1) % m → x ≡ step 0
   step-first here e = e ∙ rw here (ap (λ (y : ℕ). y % m) (sym (coef-plus (c ∷ []) (times h p) 0 ∙ omega (arith, coef-times-zero h p))))
 
-  -- and its other places
-  pub step-next : (k : ℕ) {n x : ℕ} → 0 < k → n ≡ min k s + 1 → x ≡ inner h p k 0 n % m → x ≡ step k
-  step-next zero l q e = absurd (N.not-suc-le-zero l)
-  step-next (suc k) l q e = e ∙ ap (λ (y : ℕ). y % m) (ap (inner h p (suc k) 0) q ∙ product-place (room .right) p (suc k) ∙ sym (coef-plus (c ∷ []) (times h p) (suc k) ∙ N.zero-add _))
+  -- and its other places, by what p still is up to x^k
+  pub step-next : (k : ℕ) {n x : ℕ} (l : List ℕ) → 0 < k → n ≡ min k s + 1 → ((j : ℕ) → j ≤ k → coef l j ≡ coef p j) → x ≡ inner h l k 0 n % m → x ≡ step k
+  step-next zero l q e still is = absurd (N.not-suc-le-zero q)
+  step-next (suc k) {n} l q e still is =
+      is ∙ ap (λ (y : ℕ). y % m) (inner-extensional h h l p (suc k) 0 n (λ i a b. refl) (λ i a b. still (suc k - i) (omega arith))
+      ∙ ap (inner h p (suc k) 0) e ∙ product-place (room .right) p (suc k) ∙ sym (coef-plus (c ∷ []) (times h p) (suc k) ∙ N.zero-add _))
 
   -- where h is a line, by two products
-  pub step-line : (k : ℕ) {x y z : ℕ} → s ≡ 1 → 0 < k → y ≡ coef p k → z ≡ coef p (k - 1) → x ≡ (coef h 0 * y + coef h 1 * z) % m → x ≡ step k
-  step-line k o l here before e = step-next k {n = 2} l (omega arith) (e ∙ rw (here, before) (ap (λ (y : ℕ). y % m) (sym (inner-more h p k 0 1 ∙ ap (λ (y : ℕ). y + coef h 1 * coef p (k - 1)) first))))
+  pub step-line : (k : ℕ) {x : ℕ} (l : List ℕ) → s ≡ 1 → 0 < k → ((j : ℕ) → j ≤ k → coef l j ≡ coef p j) → x ≡ (coef h 0 * coef l k + coef h 1 * coef l (k - 1)) % m → x ≡ step k
+  step-line k l o q still e = step-next k {n = 2} l q (omega arith) still (e ∙ ap (λ (y : ℕ). y % m) (sym (inner-more h l k 0 1 ∙ ap (λ (y : ℕ). y + coef h 1 * coef l (k - 1)) first)))
     where
-      first : inner h p k 0 1 ≡ coef h 0 * coef p k
-      first = inner-more h p k 0 0 ∙ rw (inner-none h p k 0, N.sub-zero k) (N.zero-add _)
+      first : inner h l k 0 1 ≡ coef h 0 * coef l k
+      first = inner-more h l k 0 0 ∙ rw (inner-none h l k 0, N.sub-zero k) (N.zero-add _)
 
   -- nothing above x^d
   pub step-past : (k : ℕ) → d < k → step k ≡ 0

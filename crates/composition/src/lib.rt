@@ -1,7 +1,7 @@
 // The composition g(h) by Horner's rule: g's coefficients from the top, each added to h times what there is so far.
 //
 //   compose     for any g and h
-//   on_line     for a line h: two products a place, and in place
+//   on_line     for a line h, with two products a place
 ghost use mathlib.Core.Path.{_≡_};
 ghost use mathlib.Core.List.{[], _∷_};
 ghost use Rattle.algebra.specs.Number.{Modulus};
@@ -10,17 +10,17 @@ ghost use Rattle.composition.specs.Composition.{composition, Composable,
 use polynomial::Coefficients;
 use polynomial::TERMS;
 
-// One step: c + h·p, of a degree up to d.
-fn step(c: u32, h: &[u32], p: &[u32], s: usize, d: usize, m: u64) -> Coefficients
+// One step, in place: p becomes c + h·p, of a degree up to d. From the top down, so that what is read is not written yet.
+fn step(p: &mut [u32], c: u32, h: &[u32], s: usize, d: usize, m: u64)
     requires { ⌜ Modulus m × Room s d (now h) (now p) ⌝ }
-    ensures { λ q. ⌜ q ≡ reduced m (plus (c ∷ []) (times (now (h .entry)) (now (p .entry)))) ⌝ }
+    ensures { λ _. ⌜ now (p .exit) ≡ reduced m (plus (c ∷ []) (times (now (h .entry)) (now (p .entry)))) ⌝ }
 {
-    let mut q = [0; TERMS];
-    q[0] = residue::two_products(h[0], p[0], c, 1, m);
-    for k in 1..d + 1 {
-        q[k] = residue::inner_product(h, p, k, 0, polynomial::smaller(k, s) + 1, m);
+    let mut k = d;
+    while k != 0 {
+        p[k] = residue::inner_product(h, p, k, 0, polynomial::smaller(k, s) + 1, m);
+        k -= 1;
     }
-    q
+    p[0] = residue::two_products(h[0], p[0], c, 1, m);
 }
 
 // g(h), for g that ends at x^r and h that ends at x^s; one polynomial is held at a time.
@@ -33,13 +33,13 @@ pub fn compose(g: &[u32], h: &[u32], r: usize, s: usize, m: u64) -> Coefficients
     let mut d = 0;
     while i != 0 {
         i -= 1;
-        p = step(g[i], h, &p, s, d, m);
+        step(&mut p, g[i], h, s, d, m);
         d += s;
     }
     p
 }
 
-// One step for a line h, in place: two products for each place, from the top down, so that what is read is not written yet.
+// The same step for a line h: two products a place, and no loop over h.
 fn line_step(p: &mut [u32], c: u32, h: &[u32], d: usize, m: u64)
     requires { ⌜ Modulus m × Room 1 d (now h) (now p) ⌝ }
     ensures { λ _. ⌜ now (p .exit) ≡ reduced m (plus (c ∷ []) (times (now (h .entry)) (now (p .entry)))) ⌝ }

@@ -1,13 +1,10 @@
--- A list that is filled from the front is a table at the end.
+-- A list that is filled from the front, or from the top, is a table at the end.
 --
 --   Filled n f r i            r has n entries, and the first i are f's
 --   filled-none, filled-more  at the start, and after one more store
 --   filled-all                at the end
 --   filled-here               a place that holds its value already needs no store
 --   zeros                     a list of zeros holds 0 at every place, and past its end
---   Begun n f k l             l has n entries, the first k are f's, and the others still 0
---   begun-none, begun-more    at the start, and after one more store
---   begun-all                 where f has nothing from k on, l is f's table already
 --   Down n f k old l          l was old, and is overwritten from the top: the entries above k are f's, the others still old's
 --   down-none, down-more      at the start, and after one more store
 --   down-all                  after the last one
@@ -17,8 +14,7 @@ use mathlib.Core.List.{List}
 use Prim.Native.Nat.{ℕ, zero, suc, _+_, _≤_, _<_}
 use native.Mathlib.Nat.{not-suc-le-zero, eq-or-lt-of-le}
 use native.Mathlib.Omega.{arith}
-use native.Mathlib.Decide.{decLt}
-use lib.ListN.{length, getD, set, length-set, replicate, length-replicate}
+use lib.ListN.{length, getD, set, length-set, replicate}
 use lib.Seq.{ext-getD, getD-set-same, getD-set-other}
 use Rattle.algebra.specs.Number.{table}
 use Rattle.algebra.specs.Polynomial.{coef}
@@ -64,28 +60,6 @@ pub zeros : (n k : ℕ) → coef (replicate n 0) k ≡ 0
 zeros zero k = refl
 zeros (suc n) zero = refl
 zeros (suc n) (suc k) = zeros n k
-
--- the first k entries are f's, and the others still 0
-pub record Begun (n : ℕ) (f : ℕ → ℕ) (k : ℕ) (l : List ℕ) : Type 0 where
-  pub filled : Filled n f l k
-  pub rest : (j : ℕ) → k ≤ j → getD l j 0 ≡ 0
-
--- before the first store
-pub begun-none : {n : ℕ} {f : ℕ → ℕ} → Begun n f 0 (replicate n 0)
-begun-none {n} = record { filled = filled-none (length-replicate n 0); rest = λ j l. zeros n j }
-
--- f k is stored at k
-pub begun-more : {n : ℕ} {f : ℕ → ℕ} {k x : ℕ} {l : List ℕ} → k < n → x ≡ f k → Begun n f k l → Begun n f (k + 1) (set l k x)
-begun-more {k = k} {x} {l} h e c =
-    record { filled = filled-more h e (c .filled); rest = λ j b. getD-set-other l k j x 0 (omega arith) ∙ c .rest j (omega arith) }
-
--- f has nothing where nothing was stored
-pub begun-all : {n : ℕ} {f : ℕ → ℕ} {k : ℕ} {l : List ℕ} → ((j : ℕ) → k ≤ j → f j ≡ 0) → Begun n f k l → l ≡ table n f
-begun-all {n} {f} {k} {l} z c = filled-all {i = n} (omega arith) (record { long = c .filled .long; is = λ j b. go j (decLt j k) })
-  where
-    go : (j : ℕ) → Dec (j < k) → getD l j 0 ≡ f j
-    go j (yes h) = c .filled .is j h
-    go j (no h) = c .rest j (omega arith) ∙ sym (z j (omega arith))
 
 -- the entries above k are f's, and the others still those of old
 pub record Down (n : ℕ) (f : ℕ → ℕ) (k : ℕ) (old l : List ℕ) : Type 0 where

@@ -19,7 +19,7 @@ loop-holds c = (omega arith, partly-none (omega arith) _ (c .before .before .pre
 
 slice-aggregate-step : tie.Need-slice-aggregate-step Inv-loop μ-loop
 unfolding terms limit
-slice-aggregate-step c = sym (c .before .before .before .loop .inv .1 .reduced .long)
+slice-aggregate-step c = sym (c .before .before .loop .inv .1 .reduced .long)
 
 step-requires : tie.Need-step-requires Inv-loop μ-loop
 step-requires c κs =
@@ -29,14 +29,14 @@ step-requires c κs =
 add-d : tie.Need-add-d Inv-loop μ-loop
 unfolding limit
 add-d c =
-    let a = c .before .before .before .before .before .before .before .pre in
-    omega (arith, partly-room (a .1 .right) (a .1 .within) (omega arith) (c .before .before .before .before .loop .inv .1) .within)
+    let a = c .before .before .before .before .before .before .before .before .pre in
+    omega (arith, partly-room (a .1 .right) (a .1 .within) (omega arith) (c .before .before .before .before .before .loop .inv .1) .within)
 
 loop-again : tie.Need-loop-again Inv-loop μ-loop
 unfolding terms limit
 loop-again c =
-    let a = c .before .before .before .before .before .before .before .pre in
-    (omega arith, partly-next (omega arith) (partly-room (a .1 .right) (a .1 .within) (omega arith) (c .before .before .before .before .loop .inv .1)) (omega arith) (omega arith) (c .step .ensures) (c .before .before .before .before .loop .inv .1))
+    let a = c .before .before .before .before .before .before .before .before .pre in
+    (omega arith, partly-next (omega arith) (partly-room (a .1 .right) (a .1 .within) (omega arith) (c .before .before .before .before .before .loop .inv .1)) (omega arith) (omega arith) (c .before .step .ensures) (c .before .before .before .before .before .loop .inv .1))
 
 returns : tie.Need-returns Inv-loop μ-loop
 returns c = partly-all (omega arith) (omega arith) (c .before .loop .inv .1)
@@ -51,9 +51,9 @@ compose-spec =
     (λ c. omega arith)
     loop-holds
     (λ c. omega arith)
-    (λ c. omega arith)
-    (λ c. omega arith)
     slice-aggregate-step
+    (λ c. omega arith)
+    (λ c. omega arith)
     step-requires
     add-d
     (λ c. omega arith)

@@ -1,6 +1,6 @@
 use mathlib.Core.Path.{_≡_, refl, sym, _∙_}
 use mathlib.Core.List.{[], _∷_}
-use Prim.Native.Nat.{_-_, _%_, _≤_}
+use Prim.Native.Nat.{_%_, _≤_}
 use native.Mathlib.Omega.{arith}
 use borrow.Author.Needs.{needs}
 use lib.ListN.{length-set}
@@ -27,7 +27,7 @@ loop-again c =
     let l = c .before .before .before .before .before .before .loop in (
       omega arith,
       down-more (omega arith) (omega arith)
-          (step-line _ _ (c .before .before .before .before .before .before .before .before .before .pre .1) (l .k) refl (omega arith) (l .inv .1 .still (l .k) (omega arith)) (l .inv .1 .still (l .k - 1) (omega arith)) (c .two-products .ensures)) (l .inv .1),
+          (step-line _ _ (c .before .before .before .before .before .before .before .before .before .pre .1) (l .k) (l .p) refl (omega arith) (l .inv .1 .still) (c .two-products .ensures)) (l .inv .1),
     )
 
 same-length : tie.Need-same-length Inv-loop μ-loop

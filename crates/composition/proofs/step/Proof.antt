@@ -1,24 +1,25 @@
-use mathlib.Core.Path.{_≡_, refl}
+use mathlib.Core.Path.{_≡_, sym, _∙_}
 use mathlib.Core.List.{[], _∷_}
-use Prim.Native.Nat.{_+_, _-_, _%_, _≤_}
+use Prim.Native.Nat.{_%_, _≤_}
 use native.Mathlib.Omega.{arith}
 use borrow.Author.Needs.{needs}
+use lib.ListN.{length-set}
 use Rattle.algebra.specs.Polynomial.{coef, plus, times, limit, terms, reduced}
-use Rattle.polynomial.proofs.Filling.{Begun, begun-none, begun-more, begun-all}
+use Rattle.polynomial.proofs.Filling.{Down, down-none, down-more, down-all}
 use Rattle.composition.proofs.Horner.{step-first, step-next, step-past}
 use Rattle.composition.proofs.step.Statement.{statement}
 use Rattle.composition.proofs.step.Tie as tie
 
--- the places below k are the step's, and the others still 0
+-- the places above k are the step's, and the others still as they were
 abbrev Inv-loop : tie.InvT-loop
-Inv-loop c h p s d m q₀ k₀ k-end q k = (1 ≤ k) × (k ≤ k-end) × (k-end ≡ d + 1) × Begun terms (λ j. coef (plus (c ∷ []) (times h p)) j % m) k q
+Inv-loop p₀ c h s d m k₀ p k = (k ≤ d) × Down terms (λ j. coef (plus (c ∷ []) (times h p₀)) j % m) k p₀ p
 
 abbrev μ-loop : tie.MeasureT-loop
-μ-loop c h p s d m q₀ k₀ k-end q k = k-end - k
+μ-loop p₀ c h s d m k₀ p k = k
 
 loop-holds : tie.Need-loop-holds Inv-loop μ-loop
 unfolding terms limit
-loop-holds c = (omega arith, omega arith, omega arith, begun-more (omega arith) (step-first _ _ (c .before .before .before .before .before .pre .1) refl (c .two-products .ensures)) begun-none)
+loop-holds c = let r = c .before .before .pre in (omega arith, down-none (r .1 .long) (λ j l. r .1 .past j (omega arith) ∙ sym (step-past _ _ (r .1) j l)))
 
 inner-product-requires : tie.Need-inner-product-requires Inv-loop μ-loop
 unfolding terms limit
@@ -26,11 +27,24 @@ inner-product-requires c κs = (search needs, record { order = omega arith; firs
 
 loop-again : tie.Need-loop-again Inv-loop μ-loop
 unfolding terms limit
-loop-again c = (omega arith, omega arith, omega arith, begun-more (omega arith) (step-next _ _ (c .before .before .before .before .before .before .before .before .before .pre .1) (c .before .before .before .loop .k) (omega arith) (omega arith) (c .inner-product .ensures)) (c .before .before .before .loop .inv .3))
+loop-again c =
+    let l = c .before .before .before .before .loop in (
+      omega arith,
+      down-more (omega arith) (omega arith)
+          (step-next _ _ (c .before .before .before .before .before .before .before .pre .1) (l .k) (l .p) (omega arith) (omega arith) (l .inv .1 .still) (c .inner-product .ensures)) (l .inv .1),
+    )
+
+same-length : tie.Need-same-length Inv-loop μ-loop
+unfolding terms limit
+same-length c = length-set (c .before .before .before .before .loop .p) 0 (c .two-products .result) ∙ c .before .before .before .before .loop .inv .1 .long ∙ sym (c .before .before .before .before .before .before .before .pre .1 .long)
 
 returns : tie.Need-returns Inv-loop μ-loop
-unfolding reduced
-returns c = begun-all (λ j l. step-past _ _ (c .before .before .before .before .before .before .before .pre .1) j (omega arith)) (c .before .loop .inv .3)
+unfolding reduced terms limit
+returns c =
+    let l = c .before .before .before .before .loop in
+    let e : l .k ≡ 0 = omega arith in
+    let i = rw e at (l .inv .1) in
+    down-all (omega arith) (step-first _ _ (c .before .before .before .before .before .before .before .pre .1) (i .still 0 (omega arith)) (c .two-products .ensures)) i
 
 pub step-spec : {M : Type 1} → statement M
 unfolding terms limit
@@ -39,11 +53,6 @@ step-spec =
     (tie.spec
     Inv-loop
     μ-loop
-    (λ c. omega arith)
-    (λ c. omega arith)
-    (λ c κs. search needs)
-    (λ c. omega arith)
-    (λ c. omega arith)
     loop-holds
     (λ c κs. search needs)
     (λ c. omega arith)
@@ -53,4 +62,9 @@ step-spec =
     (λ c. omega arith)
     (λ c. omega arith)
     loop-again
+    (λ c. omega arith)
+    (λ c. omega arith)
+    (λ c κs. search needs)
+    (λ c. omega arith)
+    same-length
     returns)
