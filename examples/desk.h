@@ -5,7 +5,7 @@
  * No. 11 so does an area). What is past the DESK_WORDS of an area, or the DESK_SHEET of a sheet, is neither read nor written.
  *
  * A modulus m is a word: 2 to 2,147,483,647, or 0, which means 2^32. At 2^32 every word is a coefficient; No. 5 is given for an
- * even r and for a chain of an even n, No. 8 for an even a alone. The modulus that desk_check and desk_read_sheet write is that
+ * even r and for a chain of an even n, No. 8 only for an even a. The modulus that desk_check and desk_read_sheet write is that
  * word; after a refusal it is 0 as well, so look at the number first.
  *
  * Memory: no pointer may be null, and each is aligned for its type, also where a count is 0 and nothing is read or written.
@@ -14,8 +14,8 @@
  * returns. The library keeps no pointer and has no state, so threads may call it at once; it calls memcpy, memmove and memset.
  *
  * Stack that a call takes, about (stack.c measures it): desk_chain 65 KB, desk_split 57 KB, desk_left_part 37 KB,
- * desk_change_pair 7 KB, desk_change_polynomial 5 KB, desk_compose and desk_read_sheet 4 KB, desk_check 2 KB, every other
- * 1 KB. A thread wants some 10 KB more for itself. */
+ * desk_change_pair 5 KB, desk_change_polynomial, desk_compose and desk_read_sheet 3 KB, desk_check 2 KB, every other 1 KB.
+ * A thread wants some 10 KB more for itself. */
 #ifndef DESK_H
 #define DESK_H
 

@@ -5,7 +5,7 @@ is (a, b). Where 01 or 02 refuses, Refused is raised. What is no request at all 
 its word, a list that is too long) or TypeError (what is no whole number).
 
 A modulus m is a word: 2 to 2147483647, or 0, which means 2^32 (2**32 fits no word). The modulus in an answer is that word too.
-At 2^32 every word is a coefficient; No. 5 is given for an even r and for a chain of an even n, No. 8 for an even a alone.
+At 2^32 every word is a coefficient; No. 5 is given for an even r and for a chain of an even n, No. 8 only for an even a.
 """
 
 import collections

@@ -8,17 +8,15 @@ use crate::split::monic;
 use crate::timing::{at, beside, Random};
 use std::hint::black_box;
 
-/// a^(-n)·f(a·x + b) by Horner's rule, with two products a place: the desk composes f with the line a·x + b.
+/// a^(-n)·f(a·x + b) by Horner's rule, in place, with two products a place, as the desk does it.
 fn moved<M: Modulus>(f: &Polynomial, n: usize, a: u32, b: u32, m: M) -> Option<Polynomial> {
     let u = invert(a as u64, m.number())?;
     let mut p = [0; TERMS];
     for i in (0..=n).rev() {
-        let mut q = [0; TERMS];
-        q[0] = two_products(b, p[0], f[i], 1, m);
-        for k in 1..=n - i {
-            q[k] = two_products(b, p[k], a, p[k - 1], m);
+        for k in (1..=n - i).rev() {
+            p[k] = two_products(b, p[k], a, p[k - 1], m);
         }
-        p = q;
+        p[0] = two_products(b, p[0], f[i], 1, m);
     }
     let w = (0..n).fold(1, |w, _| multiply(w, u, m));
     for c in p.iter_mut() {

@@ -4,16 +4,14 @@ use crate::split::monic;
 use crate::timing::{at, beside, Random};
 use std::hint::black_box;
 
-/// g(h) by Horner's rule, as the desk does it.
+/// g(h) by Horner's rule, each step in place from the top power down, as the desk does it.
 fn horner<M: Modulus>(g: &Polynomial, r: usize, h: &Polynomial, s: usize, m: M) -> Polynomial {
     let mut p = [0; TERMS];
     for i in (0..=r).rev() {
-        let mut q = [0; TERMS];
-        q[0] = two_products(h[0], p[0], g[i], 1, m);
-        for (k, c) in q.iter_mut().enumerate().take((r - i) * s + 1).skip(1) {
-            *c = m.inner_product(h, &p, k, 0, k.min(s) + 1);
+        for k in (1..=(r - i) * s).rev() {
+            p[k] = m.inner_product(h, &p, k, 0, k.min(s) + 1);
         }
-        p = q;
+        p[0] = two_products(h[0], p[0], g[i], 1, m);
     }
     p
 }

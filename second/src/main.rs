@@ -13,8 +13,7 @@
 //! apart.
 //!
 //! N inputs are compared over all operations, after the worked cases of 01 and
-//! of 2^32.
-//! Each operation gets its share of them, the cheaper ones more; without N it
+//! of 2^32. Each operation gets its share of them, the cheaper ones more; without N it
 //! is what the operation calls usual, and with 10000 or more at least 3000, so
 //! that there may be more than N. An input depends on the seed (1 if not
 //! given), the operation and its index only, so a difference at input I is met

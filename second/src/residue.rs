@@ -8,8 +8,9 @@
 
 use crate::modulus::{Modulus, WHOLE_WORDS};
 
-/// Every sum and product is formed in 64 bits, where no factors of 32 bits can
-/// overflow, and then reduced: the plainest way, and so the second program's.
+/// At every other modulus a sum or product is formed in 64 bits, where no factors
+/// of 32 bits can overflow, and then reduced: the plainest way, and so this
+/// program's.
 pub fn add(a: u32, b: u32, m: Modulus) -> u32 {
     match m {
         WHOLE_WORDS => a.wrapping_add(b),

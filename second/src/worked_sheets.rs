@@ -1,6 +1,7 @@
 //! The chains of 01's worked polynomials, and of some at modulus 2^32, as
-//! sheets, byte by byte from the figures: were the order of the bytes or of the places mistaken by the desk
-//! and by this program's records alike, only these would tell.
+//! sheets, byte by byte from the figures: were the order of the bytes or of the
+//! places mistaken by the desk and by this program's records alike, only these
+//! would tell.
 
 use crate::worked::{self, Coefficients};
 

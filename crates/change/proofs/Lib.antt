@@ -1,6 +1,7 @@
 pub mod Answering
 pub mod Combining
 pub mod Determined
+pub mod NotProper
 pub mod Following
 pub mod Moving
 pub mod Scaling

@@ -177,7 +177,7 @@ fn moved(f: &[u32], n: usize, a: u32, b: u32, m: u64) -> Coefficients
     ensures { λ p. ⌜ p ≡ moved-of m (now (f .entry)) a b ⌝ }
 {
     let l = line(a, b);
-    composition::on_line(f, &l, n, m)
+    composition::compose(f, &l, n, 1, m)
 }
 
 // Each coefficient times c.

@@ -1,7 +1,5 @@
 // The composition g(h) by Horner's rule: g's coefficients from the top, each added to h times what there is so far.
-//
-//   compose     for any g and h
-//   on_line     for a line h, with two products a place
+// A step is in place, from the top power down, so that what is read is not written yet.
 ghost use mathlib.Core.Path.{_≡_};
 ghost use mathlib.Core.List.{[], _∷_};
 ghost use Rattle.algebra.specs.Number.{Modulus};
@@ -10,11 +8,28 @@ ghost use Rattle.composition.specs.Composition.{composition, Composable,
 use polynomial::Coefficients;
 use polynomial::TERMS;
 
-// One step, in place: p becomes c + h·p, of a degree up to d. From the top down, so that what is read is not written yet.
+// One step for a line h, as in every change: two products a place, and no loop over h.
+fn line_step(p: &mut [u32], c: u32, h: &[u32], d: usize, m: u64)
+    requires { ⌜ Modulus m × Room 1 d (now h) (now p) ⌝ }
+    ensures { λ _. ⌜ now (p .exit) ≡ reduced m (plus (c ∷ []) (times (now (h .entry)) (now (p .entry)))) ⌝ }
+{
+    let mut k = d;
+    while k != 0 {
+        p[k] = residue::two_products(h[0], p[k], h[1], p[k - 1], m);
+        k -= 1;
+    }
+    p[0] = residue::two_products(h[0], p[0], c, 1, m);
+}
+
+// One step: p becomes c + h·p, of a degree up to d.
 fn step(p: &mut [u32], c: u32, h: &[u32], s: usize, d: usize, m: u64)
     requires { ⌜ Modulus m × Room s d (now h) (now p) ⌝ }
     ensures { λ _. ⌜ now (p .exit) ≡ reduced m (plus (c ∷ []) (times (now (h .entry)) (now (p .entry)))) ⌝ }
 {
+    if s == 1 {
+        line_step(p, c, h, d, m);
+        return;
+    }
     let mut k = d;
     while k != 0 {
         p[k] = residue::inner_product(h, p, k, 0, polynomial::smaller(k, s) + 1, m);
@@ -35,35 +50,6 @@ pub fn compose(g: &[u32], h: &[u32], r: usize, s: usize, m: u64) -> Coefficients
         i -= 1;
         step(&mut p, g[i], h, s, d, m);
         d += s;
-    }
-    p
-}
-
-// The same step for a line h: two products a place, and no loop over h.
-fn line_step(p: &mut [u32], c: u32, h: &[u32], d: usize, m: u64)
-    requires { ⌜ Modulus m × Room 1 d (now h) (now p) ⌝ }
-    ensures { λ _. ⌜ now (p .exit) ≡ reduced m (plus (c ∷ []) (times (now (h .entry)) (now (p .entry)))) ⌝ }
-{
-    let mut k = d;
-    while k != 0 {
-        p[k] = residue::two_products(h[0], p[k], h[1], p[k - 1], m);
-        k -= 1;
-    }
-    p[0] = residue::two_products(h[0], p[0], c, 1, m);
-}
-
-// g(h) for a line h, which is what every change asks: the same rule.
-pub fn on_line(g: &[u32], h: &[u32], r: usize, m: u64) -> Coefficients
-    requires { ⌜ Modulus m × Composable r 1 (now g) (now h) ⌝ }
-    ensures { λ f. ⌜ f ≡ composition m (now (g .entry)) (now (h .entry)) ⌝ }
-{
-    let mut p = [0; TERMS];
-    let mut i = r + 1;
-    let mut d = 0;
-    while i != 0 {
-        i -= 1;
-        line_step(&mut p, g[i], h, d, m);
-        d += 1;
     }
     p
 }

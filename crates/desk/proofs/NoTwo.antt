@@ -3,7 +3,7 @@
 --   Machine f      every coefficient is a machine word, as every u32 is
 --   NotTwo o       the outcome o is not No. 2
 --   no-two-compose, no-two-left-part, no-two-split, no-two-change-polynomial, no-two-change-pair, no-two-chain, no-two-record,
---   no-two-write-sheet, no-two-read-sheet     so for each operation that checks a polynomial
+--   no-two-write-sheet, no-two-read-sheet     so for each operation that checks a polynomial (for the reader: with the word 0 in every place)
 use mathlib.Core.Path.{_≡_, sym, ap, _∙_}
 use mathlib.Core.Bool.{Bool, true, false, not, cond, _&&_, _||_}
 use mathlib.Core.Logic.{by-cases}
@@ -23,7 +23,7 @@ use Rattle.refusal.specs.declared.Reason.{Reason}
 use Rattle.refusal.specs.declared.Reason.the-variants as reason
 use Rattle.refusal.specs.declared.Outcome.{Outcome}
 use Rattle.refusal.specs.declared.Outcome.the-variants.{Answered, Refused}
-use Rattle.polynomial.specs.Moduli.{words, modulus}
+use Rattle.polynomial.specs.Moduli.{machine-words, modulus}
 use Rattle.polynomial.specs.Checks.{check-degree, check-leading, check-polynomial, check-one, check-two, check-pair}
 use Rattle.polynomial.specs.Answers.{nothing, no-parts}
 use Rattle.polynomial.specs.declared.Answer.{Answer}
@@ -52,7 +52,7 @@ use Rattle.desk.specs.Face.{told}
 
 -- every coefficient is a machine word
 pub record Machine (f : List ℕ) : Type 0 where
-  pub is : (i : ℕ) → coef f i < words
+  pub is : (i : ℕ) → coef f i < machine-words
 
 -- No. 2 is not told
 pub record NotTwo (o : Outcome) : Type 0 where
@@ -76,62 +76,62 @@ not-refuse true c r n = not-refusal c r n
 not-refuse false c r n = not-answered
 
 -- 3 and 4 are left
-not-polynomial : (c : Concerns) {f : List ℕ} → Machine f → NotTwo (check-polynomial c words f)
+not-polynomial : (c : Concerns) {f : List ℕ} → Machine f → NotTwo (check-polynomial c machine-words f)
 unfolding check-polynomial check-degree check-leading
 not-polynomial c {f} m =
     rw (coefficients-words c f (m .is))
     (not-then (check-degree c f) (check-leading c f) (not-refuse (ltb (degree f) 2) c reason.Degree (λ e. omega arith)) (not-refuse (not (eqb (coef f (degree f)) 1)) c reason.Leading (λ e. omega arith)))
 
-not-check-one : {f : List ℕ} → Machine f → NotTwo (check-one words f)
+not-check-one : {f : List ℕ} → Machine f → NotTwo (check-one machine-words f)
 unfolding check-one
 not-check-one m = rw words-taken (not-polynomial First m)
 
-not-check-two : {f h : List ℕ} → Machine f → Machine h → NotTwo (check-two words f h)
+not-check-two : {f h : List ℕ} → Machine f → Machine h → NotTwo (check-two machine-words f h)
 unfolding check-two
-not-check-two {f} {h} m n = rw words-taken (not-then (check-polynomial First words f) (check-polynomial Second words h) (not-polynomial First m) (not-polynomial Second n))
+not-check-two {f} {h} m n = rw words-taken (not-then (check-polynomial First machine-words f) (check-polynomial Second machine-words h) (not-polynomial First m) (not-polynomial Second n))
 
-not-check-pair : {g h : List ℕ} → Machine g → Machine h → NotTwo (check-pair words g h)
+not-check-pair : {g h : List ℕ} → Machine g → Machine h → NotTwo (check-pair machine-words g h)
 unfolding check-pair
-not-check-pair {g} {h} m n = not-then (check-two words g h) _ (not-check-two m n) (not-refuse (ltb limit (degree g * degree h)) Neither reason.Limit (λ e. omega arith))
+not-check-pair {g} {h} m n = not-then (check-two machine-words g h) _ (not-check-two m n) (not-refuse (ltb limit (degree g * degree h)) Neither reason.Limit (λ e. omega arith))
 
 -- the operations
 
-pub no-two-compose : {g h : List ℕ} {x : Answer} → Machine g → Machine h → x ≡ compose words g h → NotTwo (x .outcome)
+pub no-two-compose : {g h : List ℕ} {x : Answer} → Machine g → Machine h → x ≡ compose machine-words g h → NotTwo (x .outcome)
 unfolding compose nothing
-no-two-compose {g} {h} m n e = not-as (ap (λ (x : Answer). x .outcome) e) (go (check-pair words g h) (not-check-pair m n))
+no-two-compose {g} {h} m n e = not-as (ap (λ (x : Answer). x .outcome) e) (go (check-pair machine-words g h) (not-check-pair m n))
   where
-    go : (o : Outcome) → NotTwo o → NotTwo (beside o words g h .outcome)
+    go : (o : Outcome) → NotTwo o → NotTwo (beside o machine-words g h .outcome)
     go Answered k = k
     go (Refused r) k = k
 
-pub no-two-left-part : {f h : List ℕ} {x : Answer} → Machine f → Machine h → LeftPartOf words f h x → NotTwo (x .outcome)
+pub no-two-left-part : {f h : List ℕ} {x : Answer} → Machine f → Machine h → LeftPartOf machine-words f h x → NotTwo (x .outcome)
 unfolding check-left nothing
 no-two-left-part {f} {h} m n (pairing.refused e q) =
-    not-as (ap (λ (x : Answer). x .outcome) q ∙ sym e) (not-then (check-two words f h) _ (not-check-two m n) (not-refuse (not (fits (degree f) (degree h))) Neither reason.Fit (λ e. omega arith)))
+    not-as (ap (λ (x : Answer). x .outcome) q ∙ sym e) (not-then (check-two machine-words f h) _ (not-check-two m n) (not-refuse (not (fits (degree f) (degree h))) Neither reason.Fit (λ e. omega arith)))
 no-two-left-part m n (pairing.none e k q) = not-as (ap (λ (x : Answer). x .outcome) q) (not-refusal Neither reason.NoPair (λ e. omega arith))
 no-two-left-part m n (pairing.found e k q) = not-as (ap (λ (x : Answer). x .outcome) q) not-answered
 
-pub no-two-split : {f : List ℕ} {r : ℕ} {x : Parts} → Machine f → Splits words f r x → NotTwo (x .outcome)
+pub no-two-split : {f : List ℕ} {r : ℕ} {x : Parts} → Machine f → Splits machine-words f r x → NotTwo (x .outcome)
 unfolding check-split no-parts
 no-two-split {f} {r} m (pairing.refused e q) =
-    not-as (ap (λ (x : Parts). x .outcome) q ∙ sym e) (not-then (check-one words f) _ (not-check-one m) (not-refuse (not (fits (degree f) r)) Neither reason.Fit (λ e. omega arith)))
+    not-as (ap (λ (x : Parts). x .outcome) q ∙ sym e) (not-then (check-one machine-words f) _ (not-check-one m) (not-refuse (not (fits (degree f) r)) Neither reason.Fit (λ e. omega arith)))
 no-two-split m (pairing.shared e n q) = not-as (ap (λ (x : Parts). x .outcome) q) (not-refusal Neither reason.Factor (λ e. omega arith))
 no-two-split m (pairing.none e c n q) = not-as (ap (λ (x : Parts). x .outcome) q) (not-refusal Neither reason.NoPair (λ e. omega arith))
 no-two-split m (pairing.found e c k q) = not-as (ap (λ (x : Parts). x .outcome) q) not-answered
 
-pub no-two-change-polynomial : {f : List ℕ} {c : Change} {x : Answer} → Machine f → ChangesPolynomial words f c x → NotTwo (x .outcome)
+pub no-two-change-polynomial : {f : List ℕ} {c : Change} {x : Answer} → Machine f → ChangesPolynomial machine-words f c x → NotTwo (x .outcome)
 unfolding nothing
 no-two-change-polynomial m (changing.refused e q) = not-as (ap (λ (x : Answer). x .outcome) q ∙ sym e) (not-check-one m)
 no-two-change-polynomial m (changing.not-proper e n q) = not-as (ap (λ (x : Answer). x .outcome) q) (not-refusal Neither reason.Change (λ e. omega arith))
 no-two-change-polynomial m (changing.changed e p r k q) = not-as (ap (λ (x : Answer). x .outcome) q) not-answered
 
-pub no-two-change-pair : {g h : List ℕ} {c : Change} {x : Parts} → Machine g → Machine h → ChangesPair words g h c x → NotTwo (x .outcome)
+pub no-two-change-pair : {g h : List ℕ} {c : Change} {x : Parts} → Machine g → Machine h → ChangesPair machine-words g h c x → NotTwo (x .outcome)
 unfolding no-parts
 no-two-change-pair m n (changing.refused e q) = not-as (ap (λ (x : Parts). x .outcome) q ∙ sym e) (not-check-pair m n)
 no-two-change-pair m n (changing.not-proper e k q) = not-as (ap (λ (x : Parts). x .outcome) q) (not-refusal Neither reason.Change (λ e. omega arith))
 no-two-change-pair m n (changing.changed e p r s k q) = not-as (ap (λ (x : Parts). x .outcome) q) not-answered
 
-pub no-two-chain : {f xs ys : List ℕ} {x : Chained} → Machine f → ChainOf words f xs ys x → NotTwo (x .outcome)
+pub no-two-chain : {f xs ys : List ℕ} {x : Chained} → Machine f → ChainOf machine-words f xs ys x → NotTwo (x .outcome)
 no-two-chain m (chaining.short l a q) = not-as (ap (λ (x : Chained). x .outcome) q) (not-refusal Neither reason.Area (λ e. omega arith))
 no-two-chain m (chaining.refused l e a q) = not-as (ap (λ (x : Chained). x .outcome) q ∙ sym e) (not-check-one m)
 no-two-chain m (chaining.shared l e n a q) = not-as (ap (λ (x : Chained). x .outcome) q) (not-refusal Neither reason.Factor (λ e. omega arith))
@@ -139,7 +139,7 @@ no-two-chain m (chaining.chained l e c k a q) = not-as (ap (λ (x : Chained). x 
 
 -- the coefficients of a record are machine words
 coefficients-machine : {b : List ℕ} → Bytes b → Machine (coefficients b)
-unfolding words coefficients
+unfolding machine-words coefficients
 coefficients-machine {b} s = record { is = λ i. by-cases (decLe terms i) (λ l. rw (table-above terms (λ i. word b (i + 1)) i l) (omega arith)) (λ n. rw (table-below terms (λ i. word b (i + 1)) i (omega arith)) (word-small s (i + 1))) }
 
 pub no-two-record : {b : List ℕ} {x : Checked} → Bytes b → word b 0 ≡ 0 → x ≡ checked b → NotTwo (x .outcome)
@@ -173,7 +173,7 @@ not-area : (xs : List ℕ) → ((i : ℕ) → i < most-parts → Machine (place 
 unfolding check-area check-parts check-part
 not-area xs m = rw (modulus-zero, words-taken) (
     not-then (check-order (λ i. used (place xs i))) _ (not-order _) (
-    not-then (each most-parts (λ i. cond (used (place xs i)) (check-polynomial (Place i) words (place xs i)) Answered)) _
+    not-then (each most-parts (λ i. cond (used (place xs i)) (check-polynomial (Place i) machine-words (place xs i)) Answered)) _
     (not-each most-parts _ (λ i l. not-cond (used (place xs i)) (not-polynomial (Place i) (m i l)))) (not-product (place xs))
     )
     )

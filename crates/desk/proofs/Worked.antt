@@ -18,7 +18,7 @@ use Rattle.algebra.specs.Polynomial.{coef, plus, scaled, times, after, degree, 
 use Rattle.algebra.specs.Pair.{NoPair}
 use Rattle.algebra.proofs.Numbers.{table-below}
 use Rattle.algebra.proofs.ForcedPair.{forced-refutes, left-refutes}
-use Rattle.polynomial.specs.Moduli.{words, smallest, largest, check-modulus}
+use Rattle.polynomial.specs.Moduli.{machine-words, smallest, largest, check-modulus}
 use Rattle.polynomial.specs.Checks.{offending, check-coefficients, check-degree, check-leading, check-polynomial, check-one}
 use Rattle.desk.specs.Cases.{padded, All, none, _and_, A, B, starred}
 use Rattle.desk.proofs.Padded.{taken, split-found, split-none, split-shared, left-found, left-none, changes-to, composes-to}
@@ -81,7 +81,7 @@ places = 24
 
 -- each row says which polynomials the desk takes, with their degrees; an inverse where one is needed; and by computation that they compose
 pub starred-hold : All starred
-unfolding after plus times scaled table padded limit terms degree highest words smallest largest offending check-modulus check-coefficients check-degree check-leading check-polynomial check-one
+unfolding after plus times scaled table padded limit terms degree highest machine-words smallest largest offending check-modulus check-coefficients check-degree check-leading check-polynomial check-one
 starred-hold =
     split-found (taken 101 6 _ refl refl refl) (taken 101 3 _ refl refl refl) (taken 101 2 _ refl refl refl) refl (record { inverse = 34; unit = refl }) (record { constant = refl }) (same-check 101 places _ _ refl refl refl) and
     split-none (taken 101 6 _ refl refl refl) (omega arith) (omega arith) refl (record { inverse = 51; unit = refl }) A-at-2 and

@@ -1,5 +1,5 @@
 // The leaves that the benchmark times, for Rust. Nothing is promised of what they answer; that they are safe and end is proved.
-const MOST: u64 = 0x1_0000_0000;
+use residue::MACHINE_WORDS;
 
 // The first out.len() coefficients of a product: inner products of every length from 1 on. Where the leaf's requirements do
 // not hold, out stays as it was.
@@ -8,7 +8,7 @@ pub extern "C" fn measure_product(a: &[u32], b: &[u32], m: u64, out: &mut [u32])
     if m < 2 {
         return;
     }
-    if MOST < m {
+    if MACHINE_WORDS < m {
         return;
     }
     if a.len() < out.len() {
@@ -33,7 +33,7 @@ pub extern "C" fn measure_power(a: u32, n: usize, m: u64) -> u32 {
     if m < 2 {
         return 0;
     }
-    if MOST < m {
+    if MACHINE_WORDS < m {
         return 0;
     }
     residue::power(a, n, m)
@@ -45,7 +45,7 @@ pub extern "C" fn measure_invert(a: u64, m: u64) -> u64 {
     if m < 2 {
         return 0;
     }
-    if MOST < m {
+    if MACHINE_WORDS < m {
         return 0;
     }
     match residue::invert(a, m) {

@@ -2,18 +2,21 @@
 --
 --   ExactSplit, split-exact     r and s of 2 or more with r·s = n, and r with no factor in common with m
 --   ExactLeft, left-exact       the same for a given h of degree s, whatever r has in common with m
-use mathlib.Core.Path.{_≡_, ap}
+--   split-shared, split-coprime past the other refusals No. 5 is for an r that shares a factor with m, and only another r can be split
+use mathlib.Core.Path.{_≡_, sym, ap, _∙_}
 use mathlib.Core.Logic.{_↔_, _⊎_, inl, inr}
 use mathlib.Core.List.{List}
 use Prim.Native.Nat.{ℕ, _*_, _≤_}
+use native.Mathlib.Omega.{arith}
 use Rattle.algebra.specs.Number.{Coprime}
 use Rattle.algebra.specs.Polynomial.{after, degree, Same, Monic}
 use Rattle.algebra.specs.Pair.{Pair, NormalPair}
 use Rattle.algebra.specs.Pair as pair
-use Rattle.refusal.specs.Refusal.{refusal}
+use Rattle.refusal.specs.Refusal.{number, refusal}
 use Rattle.refusal.specs.declared.Concerns.the-variants.{Neither}
-use Rattle.refusal.specs.declared.Reason.the-variants.{NoPair}
-use Rattle.refusal.specs.declared.Outcome.the-variants.{Answered}
+use Rattle.refusal.specs.declared.Reason.the-variants.{Factor, NoPair}
+use Rattle.refusal.specs.declared.Outcome.{Outcome}
+use Rattle.refusal.specs.declared.Outcome.the-variants.{Answered, Refused}
 use Rattle.refusal.proofs.Outcomes.{never}
 use Rattle.polynomial.specs.Checks.{Accepted}
 use Rattle.polynomial.specs.Answers.{nothing, no-parts}
@@ -22,7 +25,7 @@ use Rattle.polynomial.specs.declared.Answer.{Answer}
 use Rattle.polynomial.specs.declared.Parts.{Parts}
 use Rattle.polynomial.proofs.Acceptance.{degree-fits}
 use Rattle.left.specs.Left.{LeftPart, NoLeft}
-use Rattle.pair.specs.Pairing.{LeftPartOf, Splits}
+use Rattle.pair.specs.Pairing.{check-split, LeftPartOf, Splits}
 use Rattle.pair.specs.Pairing as of
 use Rattle.pair.proofs.Fitting.{degrees-fit}
 use Rattle.pair.proofs.Determined.{degrees-swap, accepted-left, accepted-split}
@@ -92,3 +95,23 @@ module _ {m r : ℕ} {f h : List ℕ} (a : Accepted m f) (b : Accepted m h) (two
         is = λ z. rw p k;
         none = (λ z. absurd (nothing-refused z o), λ z. absurd (z g (k .monic) (k .whole)));
       }
+
+-- past the other refusals, No. 5 exactly if r shares a factor with m
+pub split-shared : {m r : ℕ} {f : List ℕ} {x : Parts} → check-split m f r ≡ Answered → Splits m f r x → (x .outcome ≡ refusal Neither Factor) ↔ (Coprime r m → ⊥)
+unfolding no-parts
+split-shared k (of.refused e p) = absurd (never e k)
+split-shared k (of.shared e d p) = (λ z. d, λ z. ap (λ (x : Parts). x .outcome) p)
+split-shared k (of.none e c n p) = (λ z. absurd (let w : _≡_ {A = ℕ} 7 5 = ap number-of (sym (ap (λ (x : Parts). x .outcome) p) ∙ z) in omega arith), λ z. absurd (z c))
+  where
+    number-of : Outcome → ℕ
+    number-of Answered = 0
+    number-of (Refused r) = number (r .reason)
+split-shared k (of.found e c n p) = (λ z. absurd (never z (ap (λ (x : Parts). x .outcome) p)), λ z. absurd (z c))
+
+-- a split that is answered
+pub split-coprime : {m r : ℕ} {f : List ℕ} {x : Parts} → Splits m f r x → x .outcome ≡ Answered → Coprime r m
+unfolding no-parts
+split-coprime (of.refused e p) z = absurd (never (ap (λ (x : Parts). x .outcome) p) z)
+split-coprime (of.shared e d p) z = absurd (never (ap (λ (x : Parts). x .outcome) p) z)
+split-coprime (of.none e c n p) z = absurd (never (ap (λ (x : Parts). x .outcome) p) z)
+split-coprime (of.found e c n p) z = c

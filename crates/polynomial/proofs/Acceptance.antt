@@ -8,8 +8,7 @@
 --   accepted-two, two-accepted  the same for two
 --   degrees-multiply, above-limit, within-limit     the composed degree, and No. 10
 --   accepted-pair, pair-accepted     the checks of a pair that is composed
---   neither, spared             two tests of which neither holds, and one that another spares
---   taken-modulus               what passes No. 1: 2^32, or from the smallest to the largest
+--   neither                     two tests of which neither holds
 --   accepted-modulus            a modulus that passes No. 1 is one that the leaves take
 --   accepted-above              so the modulus of an accepted polynomial is above 1
 --   accepted-as                 an accepted polynomial as a leaf asks for it
@@ -38,8 +37,9 @@ use Rattle.refusal.specs.declared.Reason.the-variants.{Limit}
 use Rattle.refusal.specs.declared.Outcome.{Outcome}
 use Rattle.refusal.specs.declared.Outcome.the-variants.{Answered}
 use Rattle.refusal.proofs.Outcomes.{then-refused, then-both, then-assoc, refuse-answered}
-use Rattle.polynomial.specs.Moduli.{words, smallest, largest, check-modulus}
+use Rattle.polynomial.specs.Moduli.{machine-words, smallest, largest, check-modulus}
 use Rattle.polynomial.specs.Checks.{offending, check-coefficients, check-degree, check-leading, check-polynomial, check-one, check-two, check-pair, Accepted}
+use Rattle.polynomial.proofs.Moduli.{taken-modulus}
 use Rattle.polynomial.proofs.Lowest.{offending-none, none-offending}
 use Rattle.algebra.proofs.Highest.{degree-below, degree-above}
 
@@ -49,11 +49,11 @@ unfolding check-polynomial
 coefficients-first c m f h = then-refused (check-degree c f then check-leading c f) h
 
 -- at the modulus 2^32 no machine word is m or more
-pub coefficients-words : (c : Concerns) (f : List ℕ) → ((i : ℕ) → coef f i < words) → check-coefficients c words f ≡ Answered
+pub coefficients-words : (c : Concerns) (f : List ℕ) → ((i : ℕ) → coef f i < machine-words) → check-coefficients c machine-words f ≡ Answered
 unfolding check-coefficients
 coefficients-words c f small =
-    let none : offending words f ≡ length f = none-offending words f (record { below = λ i l. small i }) in
-    simp (le-ltb (offending words f) (length f) (omega arith))
+    let none : offending machine-words f ≡ length f = none-offending machine-words f (record { below = λ i l. small i }) in
+    simp (le-ltb (offending machine-words f) (length f) (omega arith))
 
 -- the checks of two polynomials are those of the first, then 2, 3, 4 for the second
 pub two-after-one : (m : ℕ) (f h : List ℕ) → check-two m f h ≡ (check-one m f then check-polynomial Second m h)
@@ -65,20 +65,9 @@ pub neither : (s t : Bool) → (s || t) ≡ false → (s ≡ false) × (t ≡ fa
 neither true t h = (h, cc)
 neither false t h = (refl, h)
 
--- a test that another one spares
-spared : (s t : Bool) → (not s && t) ≡ false → (s ≡ true) ⊎ (t ≡ false)
-spared true t h = inl refl
-spared false t h = inr h
-
--- what passes No. 1
-taken-modulus : (m : ℕ) → check-modulus m ≡ Answered → (m ≡ words) ⊎ ((smallest ≤ m) × (m ≤ largest))
-unfolding check-modulus
-taken-modulus m h = ⊎-elim (λ e. inl (eqb-true m words e)) (λ e. let (l, k) = neither (ltb m smallest) (ltb largest m) e in inr (ltb-false _ _ l, ltb-false _ _ k))
-    (spared (eqb m words) (ltb m smallest || ltb largest m) (refuse-answered _ _ _ h))
-
 -- a modulus that passes No. 1 is one that the leaves take
 pub accepted-modulus : {m : ℕ} → check-modulus m ≡ Answered → Modulus m
-unfolding words smallest largest
+unfolding machine-words smallest largest
 accepted-modulus {m} h = ⊎-elim (λ e. record { above-one = omega arith; fits = omega arith }) (λ e. record { above-one = omega arith; fits = omega arith }) (taken-modulus m h)
 
 -- so the modulus of an accepted polynomial is above 1

@@ -1,6 +1,6 @@
 -- The modulus: a word at the operations, and the number it means everywhere below them.
 --
---   words                how many machine words there are: the modulus 2^32, at which their sums and differences run round
+--   machine-words        how many machine words there are: the modulus 2^32, at which their sums and differences run round
 --   modulus w            the number that the modulus word w means
 --   smallest, largest    the other moduli that the desk takes
 --   check-modulus m      No. 1
@@ -13,12 +13,12 @@ use Rattle.refusal.specs.declared.Reason.the-variants.{Modulus}
 use Rattle.refusal.specs.declared.Outcome.{Outcome}
 
 -- as many as there are machine words
-unfoldable pub words : ℕ
-words = 2 ^ 32
+unfoldable pub machine-words : ℕ
+machine-words = 2 ^ 32
 
 -- 0 means 2^32, and every other word itself
 unfoldable pub modulus : ℕ → ℕ
-modulus zero = words
+modulus zero = machine-words
 modulus (suc w) = suc w
 
 -- the smallest modulus
@@ -31,4 +31,4 @@ largest = 2147483647
 
 -- m is not 2^32, and below the smallest modulus or above the largest
 unfoldable pub check-modulus : ℕ → Outcome
-check-modulus m = refuse (not (eqb m words) && (ltb m smallest || ltb largest m)) Neither Modulus
+check-modulus m = refuse (not (eqb m machine-words) && (ltb m smallest || ltb largest m)) Neither Modulus

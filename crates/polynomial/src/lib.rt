@@ -8,7 +8,7 @@ ghost use Rattle.polynomial.specs.Answers.{nothing as nothing-of, no-par
 use refusal::Concerns;
 use refusal::Outcome;
 use refusal::Reason;
-use residue::WORDS;
+use residue::MACHINE_WORDS;
 
 // The highest degree that the desk takes.
 pub const LIMIT: usize = 126;
@@ -16,7 +16,7 @@ pub const LIMIT: usize = 126;
 // How many coefficients a polynomial has.
 pub const TERMS: usize = LIMIT + 1;
 
-// The moduli that the desk takes, beside 2^32.
+// The moduli that the desk takes, besides 2^32.
 const SMALLEST: u64 = 2;
 
 const LARGEST: u64 = 2147483647;
@@ -84,7 +84,7 @@ pub fn modulus(word: u32) -> u64
     ensures { λ r. ⌜ r ≡ modulus-of word ⌝ }
 {
     if word == 0 {
-        return WORDS;
+        return MACHINE_WORDS;
     }
     word as u64
 }
@@ -107,7 +107,7 @@ fn offending(m: u64, f: &[u32]) -> usize
 pub fn check_modulus(m: u64) -> Outcome
     ensures { λ r. ⌜ r ≡ check-modulus m ⌝ }
 {
-    if m == WORDS {
+    if m == MACHINE_WORDS {
         return Outcome::Answered;
     }
     if m < SMALLEST {

@@ -14,7 +14,7 @@ ghost use Rattle.algebra.specs.Number.{Modulus};
 ghost use Rattle.residue.specs.Residue.{InverseIs, inner, Within, strided, Strides};
 
 // How many machine words there are: the modulus at which they run round.
-pub const WORDS: u64 = 0x1_0000_0000;
+pub const MACHINE_WORDS: u64 = 0x1_0000_0000;
 
 // a + b, round at 2^32.
 fn add_words(a: u32, b: u32) -> u32
@@ -34,7 +34,7 @@ fn subtract_words(a: u32, b: u32) -> u32
 fn multiply_words(a: u32, b: u32) -> u32
     ensures { λ r. ⌜ r ≡ a * b % 2 ^ 32 ⌝ }
 {
-    (whole(a, b) % WORDS) as u32
+    (whole(a, b) % MACHINE_WORDS) as u32
 }
 
 // a - b modulo m.
@@ -42,7 +42,7 @@ pub fn subtract(a: u32, b: u32, m: u64) -> u32
     requires { ⌜ Modulus m × (a < m) × (b < m) ⌝ }
     ensures { λ r. ⌜ r ≡ (a + (m - b)) % m ⌝ }
 {
-    if m == WORDS {
+    if m == MACHINE_WORDS {
         return subtract_words(a, b);
     }
     if b <= a {
@@ -57,18 +57,18 @@ pub fn multiply(a: u32, b: u32, m: u64) -> u32
     requires { ⌜ Modulus m ⌝ }
     ensures { λ r. ⌜ r ≡ a * b % m ⌝ }
 {
-    if m == WORDS {
+    if m == MACHINE_WORDS {
         return multiply_words(a, b);
     }
     (a as u64 * b as u64 % m) as u32
 }
 
-// a * x + b * y modulo m, exact and reduced once.
+// a * x + b * y modulo m, reduced once.
 pub fn two_products(a: u32, x: u32, b: u32, y: u32, m: u64) -> u32
     requires { ⌜ Modulus m ⌝ }
     ensures { λ r. ⌜ r ≡ (a * x + b * y) % m ⌝ }
 {
-    if m == WORDS {
+    if m == MACHINE_WORDS {
         return add_words(multiply_words(a, x), multiply_words(b, y));
     }
     let w = Wide {
@@ -166,8 +166,8 @@ fn reduced(w: Wide, m: u64) -> u32
     if w.high == 0 {
         return (w.low % m) as u32;
     }
-    let x = (w.high * 0x1_0000_0000 + w.low / 0x1_0000_0000) % m;
-    ((x * 0x1_0000_0000 + w.low % 0x1_0000_0000) % m) as u32
+    let x = (w.high * MACHINE_WORDS + w.low / MACHINE_WORDS) % m;
+    ((x * MACHINE_WORDS + w.low % MACHINE_WORDS) % m) as u32
 }
 
 // The whole product.
@@ -189,12 +189,12 @@ fn inner_words(a: &[u32], b: &[u32], k: usize, lo: usize, hi: usize) -> u32
     w
 }
 
-// The sum of a[i] * b[k - i] for i from lo to hi - 1, modulo m. The sum is exact: nothing is divided inside the loop.
+// The sum of a[i] * b[k - i] for i from lo to hi - 1, modulo m. Nothing is divided inside the loop: but for 2^32 the sum is exact.
 pub fn inner_product(a: &[u32], b: &[u32], k: usize, lo: usize, hi: usize, m: u64) -> u32
     requires { ⌜ Modulus m × Within (length (now a)) (length (now b)) k lo hi ⌝ }
     ensures { λ r. ⌜ r ≡ inner (now (a .entry)) (now (b .entry)) k lo (hi - lo) % m ⌝ }
 {
-    if m == WORDS {
+    if m == MACHINE_WORDS {
         return inner_words(a, b, k, lo, hi);
     }
     let mut w = Wide { high: 0, low: 0 };
@@ -231,7 +231,7 @@ pub fn strided_product(
     requires { ⌜ Modulus m × Strides (length (now a)) (length (now b)) lo hi at step ⌝ }
     ensures { λ r. ⌜ r ≡ strided (now (a .entry)) (now (b .entry)) lo at step (hi - lo) % m ⌝ }
 {
-    if m == WORDS {
+    if m == MACHINE_WORDS {
         return strided_words(a, b, lo, hi, at, step);
     }
     let mut w = Wide { high: 0, low: 0 };

@@ -87,7 +87,7 @@ pub const TAKEN: [&str; 10] = [
     PARTS[0], PARTS[1], PARTS[2], PARTS[3], PARTS[4], PARTS[5], NORMAL, NOT_NORMAL, DEGREE_126,
     SPLITS,
 ];
-/// All but the last, which few are there.
+/// All but the last: few parts split further there.
 pub const TAKEN_AT_2_32: &[&str] = TAKEN.split_at(9).0;
 
 /// Of a chain that is taken.

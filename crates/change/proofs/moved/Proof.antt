@@ -4,11 +4,11 @@ use Rattle.change.proofs.Moving.{composable-line, moved-is}
 use Rattle.change.proofs.moved.Statement.{statement}
 use Rattle.change.proofs.moved.Tie as tie
 
-on-line-requires : tie.Need-on-line-requires
-on-line-requires c κs = (search needs, composable-line (c .before .before .before .pre .1) (c .before .line .ensures))
+compose-requires : tie.Need-compose-requires
+compose-requires c κs = (search needs, composable-line (c .before .before .before .pre .1) (c .before .line .ensures))
 
 returns : tie.Need-returns
-returns c = moved-is (omega arith) _ _ _ (c .before .before .line .ensures) (c .on-line .ensures)
+returns c = moved-is (omega arith) _ _ _ (c .before .before .line .ensures) (c .compose .ensures)
 
 pub moved-spec : {M : Type 1} → statement M
-moved-spec = tie.close (tie.spec (λ c κs. search needs) (λ c. search needs) on-line-requires returns)
+moved-spec = tie.close (tie.spec (λ c κs. search needs) (λ c. search needs) compose-requires returns)

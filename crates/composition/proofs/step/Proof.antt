@@ -17,9 +17,15 @@ Inv-loop p₀ c h s d m k₀ p k = (k ≤ d) × Down terms (λ j. coef (plus (c 
 abbrev μ-loop : tie.MeasureT-loop
 μ-loop p₀ c h s d m k₀ p k = k
 
+line-step-requires : tie.Need-line-step-requires Inv-loop μ-loop
+line-step-requires c κs = let r = c .before .before .before .before .pre in (r .0, rw (c .before .if1 .taken) at (r .1))
+
+returns : tie.Need-returns Inv-loop μ-loop
+returns c = c .before .before .line-step .ensures
+
 loop-holds : tie.Need-loop-holds Inv-loop μ-loop
 unfolding terms limit
-loop-holds c = let r = c .before .before .pre in (omega arith, down-none (r .1 .long) (λ j l. r .1 .past j (omega arith) ∙ sym (step-past _ _ (r .1) j l)))
+loop-holds c = let r = c .before .before .before .pre in (omega arith, down-none (r .1 .long) (λ j l. r .1 .past j (omega arith) ∙ sym (step-past _ _ (r .1) j l)))
 
 inner-product-requires : tie.Need-inner-product-requires Inv-loop μ-loop
 unfolding terms limit
@@ -31,20 +37,20 @@ loop-again c =
     let l = c .before .before .before .before .loop in (
       omega arith,
       down-more (omega arith) (omega arith)
-          (step-next _ _ (c .before .before .before .before .before .before .before .pre .1) (l .k) (l .p) (omega arith) (omega arith) (l .inv .1 .still) (c .inner-product .ensures)) (l .inv .1),
+          (step-next _ _ (c .before .before .before .before .before .before .before .before .pre .1) (l .k) (l .p) (omega arith) (omega arith) (l .inv .1 .still) (c .inner-product .ensures)) (l .inv .1),
     )
 
-same-length : tie.Need-same-length Inv-loop μ-loop
+same-length : tie.Need-same-length-2 Inv-loop μ-loop
 unfolding terms limit
-same-length c = length-set (c .before .before .before .before .loop .p) 0 (c .two-products .result) ∙ c .before .before .before .before .loop .inv .1 .long ∙ sym (c .before .before .before .before .before .before .before .pre .1 .long)
+same-length c = length-set (c .before .before .before .before .loop .p) 0 (c .two-products .result) ∙ c .before .before .before .before .loop .inv .1 .long ∙ sym (c .before .before .before .before .before .before .before .before .pre .1 .long)
 
-returns : tie.Need-returns Inv-loop μ-loop
+returns-2 : tie.Need-returns-2 Inv-loop μ-loop
 unfolding reduced terms limit
-returns c =
+returns-2 c =
     let l = c .before .before .before .before .loop in
     let e : l .k ≡ 0 = omega arith in
     let i = rw e at (l .inv .1) in
-    down-all (omega arith) (step-first _ _ (c .before .before .before .before .before .before .before .pre .1) (i .still 0 (omega arith)) (c .two-products .ensures)) i
+    down-all (omega arith) (step-first _ _ (c .before .before .before .before .before .before .before .before .pre .1) (i .still 0 (omega arith)) (c .two-products .ensures)) i
 
 pub step-spec : {M : Type 1} → statement M
 unfolding terms limit
@@ -53,6 +59,9 @@ step-spec =
     (tie.spec
     Inv-loop
     μ-loop
+    line-step-requires
+    (λ c. search needs)
+    returns
     loop-holds
     (λ c κs. search needs)
     (λ c. omega arith)
@@ -67,4 +76,4 @@ step-spec =
     (λ c κs. search needs)
     (λ c. omega arith)
     same-length
-    returns)
+    returns-2)

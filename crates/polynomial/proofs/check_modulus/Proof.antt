@@ -1,13 +1,13 @@
 use mathlib.Core.Path.{sym, _∙_}
 use native.Mathlib.Omega.{arith}
 use borrow.Author.Needs.{needs}
-use Rattle.polynomial.specs.Moduli.{words, smallest, largest}
+use Rattle.polynomial.specs.Moduli.{machine-words, smallest, largest}
 use Rattle.polynomial.proofs.Moduli.{words-taken, within-taken, below-refused, above-refused}
 use Rattle.polynomial.proofs.check_modulus.Statement.{statement}
 use Rattle.polynomial.proofs.check_modulus.Tie as tie
 
 returns : tie.Need-returns
-unfolding words
+unfolding machine-words
 returns c = rw (c .if1 .taken) (sym words-taken)
 
 returns-2 : tie.Need-returns-2
@@ -15,7 +15,7 @@ unfolding smallest
 returns-2 c = c .refused .ensures ∙ sym (below-refused _ (omega arith))
 
 returns-3 : tie.Need-returns-3
-unfolding words largest
+unfolding machine-words largest
 returns-3 c = c .refused2 .ensures ∙ sym (above-refused _ (omega arith) (c .before .before .before .if1 .left))
 
 returns-4 : tie.Need-returns-4

@@ -1,11 +1,11 @@
 use mathlib.Core.Path.{sym}
-use Rattle.polynomial.specs.Moduli.{words}
+use Rattle.polynomial.specs.Moduli.{machine-words}
 use Rattle.polynomial.proofs.Moduli.{modulus-zero, modulus-itself}
 use Rattle.polynomial.proofs.modulus.Statement.{statement}
 use Rattle.polynomial.proofs.modulus.Tie as tie
 
 returns : tie.Need-returns
-unfolding words
+unfolding machine-words
 returns c = rw (c .if1 .taken) (sym modulus-zero)
 
 returns-2 : tie.Need-returns-2
