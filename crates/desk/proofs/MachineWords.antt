@@ -7,7 +7,7 @@
 --   proper-odd                a change is proper exactly if its a is odd
 --   polynomial-even, pair-even, undo-even, combine-even     so past the other refusals No. 8 is for an even a alone
 --   zero-record               a record of zero bytes is No. 3
-use mathlib.Core.Path.{_≡_, refl, sym, ap, _∙_}
+use mathlib.Core.Path.{_≡_, refl, sym}
 use mathlib.Core.Logic.{_⊎_, _↔_, inl, inr, ⊎-elim, Iff·trans}
 use mathlib.Core.List.{List}
 use Prim.Native.Nat.{ℕ, _%_, _≤_, _<_}
@@ -17,32 +17,26 @@ use lib.ListN.{length, replicate}
 use Rattle.algebra.specs.Number.{Coprime, table}
 use Rattle.algebra.specs.Polynomial.{degree, highest, limit, terms}
 use Rattle.algebra.proofs.Factors.{odd-coprime, coprime-odd}
-use Rattle.refusal.specs.Refusal.{number, refusal}
+use Rattle.refusal.specs.Refusal.{refusal}
 use Rattle.refusal.specs.declared.Concerns.the-variants.{Neither, First}
 use Rattle.refusal.specs.declared.Reason.the-variants.{Factor, Degree}
-use Rattle.refusal.specs.declared.Outcome.{Outcome}
 use Rattle.refusal.specs.declared.Outcome.the-variants.{Answered}
-use Rattle.refusal.proofs.Outcomes.{never}
 use Rattle.polynomial.specs.Moduli.{machine-words, modulus, smallest, largest, check-modulus}
 use Rattle.polynomial.specs.Checks.{offending, check-coefficients, check-degree, check-polynomial, check-one, check-pair}
-use Rattle.polynomial.specs.Answers.{nothing, no-parts}
 use Rattle.polynomial.specs.declared.Answer.{Answer}
 use Rattle.polynomial.specs.declared.Parts.{Parts}
 use Rattle.polynomial.proofs.Moduli.{words-taken}
 use Rattle.pair.specs.Pairing.{check-split, Splits}
-use Rattle.pair.specs.Pairing as pairing
 use Rattle.pair.proofs.Exact.{split-shared, split-coprime}
 use Rattle.change.proofs.NotProper.{polynomial-improper, pair-improper, undo-improper, combine-improper}
 use Rattle.change.specs.declared.Change.{Change}
 use Rattle.change.specs.declared.Made.{Made}
 use Rattle.change.specs.Changing.{Proper, improper, ChangesPolynomial, ChangesPair, Combines, Undoing}
-use Rattle.change.specs.Changing as changing
 use Rattle.area.specs.Area.{area-words}
 use Rattle.chain.specs.declared.Chained.{Chained}
 use Rattle.chain.specs.Chaining.{ChainOf}
 use Rattle.chain.proofs.Promises.{chain-exact, chain-complete}
 use Rattle.record.specs.Record.{word, record-bytes, coefficients, check-record, no-record, checked}
-use Rattle.desk.specs.Face.{told}
 
 -- 2 is the only prime in 2^32
 pub coprime-words : (a : ℕ) → Coprime a machine-words ↔ (a % 2 ≡ 1)
