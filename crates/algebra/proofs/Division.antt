@@ -1,32 +1,41 @@
 -- Division by a monic polynomial modulo m: one quotient, one remainder, and what that says of left parts.
 --
 --   division-unique     c + h·u = d + h·v with c and d of degree below that of h: u = v and c = d
---   after-first         g(h) = g(0) + h·(g without its constant)(h)
---   divide-step         dividing g(h) by h leaves g(0), and the quotient is composed with h again: repeated division rests on it
+--   after-parts         g(h) is its first k terms, after h, and h^k times the others, after h
+--   parts-after         dividing g(h) by h^k leaves the first, and the quotient is the others: repeated division rests on it
 --   left-part-unique    for a given monic h, whatever h(0), at most one g has f = g(h); no inverse is needed
 use mathlib.Core.Path.{_≡_, refl, sym, ap, _∙_, fun-ext}
-use mathlib.Core.List.{List, [], _∷_, tail}
-use Prim.Native.Nat.{ℕ, zero, suc, _+_, _%_, _≤_, _<_}
+use mathlib.Core.Logic.{_↔_}
+use mathlib.Core.List.{List, [], _∷_}
+use Prim.Native.Nat.{ℕ, zero, suc, _+_, _*_, _%_, _≤_, _<_}
 use native.Mathlib.Omega.{arith}
 use native.Mathlib.Decide.{decLt}
-use lib.ListN.{length}
-use Rattle.algebra.specs.Polynomial.{coef, plus, times, after, Same, Monic}
+use lib.ListN.{length, take, drop, length-take, List·getD-eq-default}
+use Rattle.algebra.specs.Polynomial.{coef, plus, times, power, after, Same, Monic}
+use Rattle.algebra.proofs.Ring.{Ring, ring}
 use Rattle.algebra.proofs.Series as S
 use Rattle.algebra.proofs.Evaluation.{eval-plus, eval-times, ⟦_⟧}
 use Rattle.algebra.proofs.Residues.{same→equal, equal→same}
-use Rattle.algebra.proofs.Polynomials.{Q, _⨾_, same-refl, same-sym, monic-series, residue-at, past, after-compose, plus-same, plus-nothing, times-comm, times-nothing}
+use Rattle.algebra.proofs.Polynomials.{Q, _⨾_, same-refl, same-sym, monic-series, residue-at, past, after-compose, plus-same, plus-nothing, times-same, times-comm, times-nothing, times-one, monic-same}
+use Rattle.algebra.proofs.Coefficients.{after-end, power-monic}
 use Rattle.algebra.proofs.Moved.{Z}
 use Rattle.algebra.proofs.Degrees as D
 
+module _ (R : Ring) where
+  open Ring R using (El, _⊕_, _⊗_)
+
+  shared-factor : (c t u v h : El) → c ⊕ h ⊗ (t ⊕ u ⊗ v) ≡ c ⊕ h ⊗ t ⊕ h ⊗ u ⊗ v
+  shared-factor c t u v h = simp ring
+
 module _ (m : ℕ) (pos : 0 < m) where
-  pub after-first : (g h : List ℕ) → Same m (after g h) (plus (coef g 0 ∷ []) (times h (after (tail g) h)))
-  unfolding after
-  after-first [] h = same-sym (plus-same m pos (record { at = zeros }) (times-comm m pos h [] ⨾ times-nothing m pos h) ⨾ plus-nothing m pos [])
-    where
-      zeros : (i : ℕ) → coef (0 ∷ []) i % m ≡ coef [] i % m
-      zeros zero = refl
-      zeros (suc i) = refl
-  after-first (a ∷ g) h = same-refl _
+  regroup : (c t u v h : List ℕ) → Same m (plus c (times h (plus t (times u v)))) (plus (plus c (times h t)) (times (times h u) v))
+  regroup c t u v h = equal→same m pos (simp (eval-plus (Q m pos), eval-times (Q m pos)) (shared-factor (Q m pos) _ _ _ _ _))
+
+  pub after-parts : (k : ℕ) (g h : List ℕ) → Same m (after g h) (plus (after (take k g) h) (times (power h k) (after (drop k g) h)))
+  unfolding after power
+  after-parts zero g h = same-sym (plus-nothing m pos _ ⨾ times-one m pos (after g h))
+  after-parts (suc k) [] h = same-sym (plus-nothing m pos _ ⨾ times-comm m pos _ [] ⨾ times-nothing m pos _)
+  after-parts (suc k) (a ∷ g) h = plus-same m pos (same-refl (a ∷ [])) (times-same m pos (same-refl h) (after-parts k g h)) ⨾ regroup (a ∷ []) _ _ _ h
 
   pub division-unique : {s : ℕ} {h u v c d : List ℕ} → Monic m s h → ((i : ℕ) → s ≤ i → coef c i % m ≡ 0 % m) → ((i : ℕ) → s ≤ i → coef d i % m ≡ 0 % m)
       → Same m (plus c (times h u)) (plus d (times h v)) → Same m u v × Same m c d
@@ -43,14 +52,25 @@ module _ (m : ℕ) (pos : 0 < m) where
       spread : (c u : List ℕ) → ⟦ Z m pos ⟧ (plus c (times h u)) ≡ S._⊞_ (Z m pos) (⟦ Z m pos ⟧ c) (S._⊠_ (Z m pos) (⟦ Z m pos ⟧ h) (⟦ Z m pos ⟧ u))
       spread c u = eval-plus (Q m pos) c (times h u) _ ∙ ap (S._⊞_ (Z m pos) (⟦ Z m pos ⟧ c)) (eval-times (Q m pos) h u _)
 
-  -- f = r + h·q and f = g(h): q = (tail g)(h) and r = g(0)
-  pub divide-step : {s : ℕ} {f h q r : List ℕ} (g : List ℕ) → 0 < s → Monic m s h → ((i : ℕ) → s ≤ i → coef r i % m ≡ 0 % m)
-      → Same m f (after g h) → Same m f (plus r (times h q)) → Same m q (after (tail g) h) × Same m r (coef g 0 ∷ [])
-  divide-step {s} g sp mh lr e d = division-unique mh lr low (same-sym d ⨾ e ⨾ after-first g _)
+  -- k terms after h end below h^k
+  low : {s : ℕ} {h : List ℕ} → 0 < s → Monic m s h → (k : ℕ) (g : List ℕ) (i : ℕ) → k * s ≤ i → coef (after (take k g) h) i % m ≡ 0 % m
+  unfolding after
+  low sp mh zero g i l = refl
+  low {s} sp mh (suc k) g i l = after-end m pos (take (suc k) g) sp mh (λ (j : ℕ) (b : k < j). ap (λ (x : ℕ). x % m) (List·getD-eq-default (take (suc k) g) 0 (omega (arith, length-take (suc k) g)))) .1 i (omega arith)
+
+  -- p = c + b·q with b = h^k and c of a degree below that of b: p = g(h) exactly if c is g's first k terms, after h, and q the others
+  pub parts-after : {s : ℕ} (k : ℕ) {p c b q h : List ℕ} → 0 < s → Monic m s h → Same m b (power h k) → ((i : ℕ) → k * s ≤ i → coef c i % m ≡ 0 % m)
+      → Same m p (plus c (times b q)) → (g : List ℕ) → Same m p (after g h) ↔ (Same m c (after (take k g) h) × Same m q (after (drop k g) h))
+  parts-after {s} k {p} {c} {b} {q} {h} sp mh raised lc d g = (apart, together)
     where
-      low : (i : ℕ) → s ≤ i → coef (coef g 0 ∷ []) i % m ≡ 0 % m
-      low zero l = absurd (omega arith)
-      low (suc i) l = refl
+      parts : Same m (after g h) (plus (after (take k g) h) (times b (after (drop k g) h)))
+      parts = after-parts k g h ⨾ plus-same m pos (same-refl _) (times-same m pos (same-sym raised) (same-refl _))
+
+      apart : Same m p (after g h) → Same m c (after (take k g) h) × Same m q (after (drop k g) h)
+      apart e = let (x, y) = division-unique (monic-same m pos (same-sym raised) (power-monic m pos mh k)) lc (low sp mh k g) (same-sym d ⨾ e ⨾ parts) in (y, x)
+
+      together : Same m c (after (take k g) h) × Same m q (after (drop k g) h) → Same m p (after g h)
+      together (x, y) = d ⨾ plus-same m pos x (times-same m pos (same-refl b) y) ⨾ same-sym parts
 
   -- for a given monic h of degree 1 or more, at most one g
   pub left-part-unique : {s : ℕ} {h g g′ : List ℕ} → 0 < s → Monic m s h → Same m (after g h) (after g′ h) → Same m g g′

@@ -11,7 +11,6 @@ pub mod Binomials
 pub mod Tops
 pub mod Polynomials
 pub mod Coefficients
-pub mod System
 pub mod Highest
 pub mod Reduction
 pub mod Factors

@@ -22,7 +22,7 @@ fn line_step(p: &mut [u32], c: u32, h: &[u32], d: usize, m: u64)
 }
 
 // One step: p becomes c + h·p, of a degree up to d.
-fn step(p: &mut [u32], c: u32, h: &[u32], s: usize, d: usize, m: u64)
+pub fn step(p: &mut [u32], c: u32, h: &[u32], s: usize, d: usize, m: u64)
     requires { ⌜ Modulus m × Room s d (now h) (now p) ⌝ }
     ensures { λ _. ⌜ now (p .exit) ≡ reduced m (plus (c ∷ []) (times (now (h .entry)) (now (p .entry)))) ⌝ }
 {

@@ -1,4 +1,4 @@
-pub mod Summing
-pub mod Rowing
-pub mod Solving
-pub mod Comparing
+pub mod Dividing
+pub mod Raising
+pub mod Expanding
+pub mod Found

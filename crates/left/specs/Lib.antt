@@ -1,2 +1,2 @@
-pub mod Powers
+pub mod Division
 pub mod Left

@@ -1,92 +1,153 @@
-// The left part of f for a given right part h, from all powers of h at once: the g that solves system (1) of document 000 from
-// the top, compared with f at every power of x.
+// The left part of f for a given right part h, by repeated division by h with remainder (document 001, 3.1): the remainders are
+// the digits of f in powers of h. f = g(h) exactly if every digit is a constant, and then they are the coefficients of g. One
+// list holds the digits found and, above them, the quotient still to be divided. Where there are many digits some are taken at
+// once, by a division by h^k, and then told apart by divisions by h.
 ghost use mathlib.Core.Path.{_≡_};
 ghost use mathlib.Core.Bool.{true, false};
-ghost use Prim.Native.Nat.{ℕ, _+_, _*_, _≤_};
-ghost use lib.ListN.{length, replicate};
+ghost use Prim.Native.Nat.{ℕ, _+_, _*_, _≤_, _<_};
+ghost use lib.ListN.{length};
 ghost use Rattle.algebra.specs.Number.{Modulus};
-ghost use Rattle.algebra.specs.Polynomial.{coef, terms};
-ghost use Rattle.left.specs.Powers.{powers-kept, Raised, Powers, row-sum as row-sum-of, Summed, Solvable, Solves};
+ghost use Rattle.algebra.specs.Polynomial.{coef, limit, terms, Held};
+ghost use Rattle.left.specs.Division.{Divisible, Divided, Raised, Lowest, Digits, Constants};
 ghost use Rattle.left.specs.Left.{LeftAsked, LeftAnswer};
 use polynomial::Answer;
 use polynomial::Coefficients;
-use polynomial::LIMIT;
 use polynomial::TERMS;
 use refusal::Concerns;
 use refusal::Outcome;
 use refusal::Reason;
 
-// The powers 0 to LIMIT / 2: with a right degree of 2 or more no left degree is higher.
-const POWERS: usize = LIMIT / 2 + 1;
-
-const WORDS: usize = POWERS * TERMS;
-
-// Row i + 1 from row i: the product with h, of degree s.
-fn next_row(t: &mut [u32], h: &[u32], i: usize, s: usize, m: u64)
-    requires { ⌜ Raised m s (i + 1) (now h) × Powers m (now h) i (now t) ⌝ }
-    ensures { λ _. ⌜ Powers m (now (h .entry)) (i + 1) (now (t .exit)) ⌝ }
+// p divided by h, of degree s, in place: its lowest s places become the remainder, those above them the quotient.
+fn divide(p: &mut [u32], h: &[u32], s: usize, m: u64)
+    requires { ⌜ Divisible m s (now h) (now p) × (s ≤ length (now p)) ⌝ }
+    ensures { λ _. ⌜ Divided m (now (h .entry)) s (now (p .entry)) (now (p .exit)) ⌝ }
 {
-    let from = i * TERMS;
-    let to = from + TERMS;
-    for k in 0..(i + 1) * s + 1 {
-        t[to + k] = residue::inner_product(h, t, from + k, 0, polynomial::smaller(k, s) + 1, m);
+    let mut i = p.len();
+    while i != 0 {
+        let k = i + s;
+        i -= 1;
+        let lo = k - polynomial::smaller(k, p.len());
+        let x = residue::inner_product(h, p, i + s, lo, polynomial::smaller(s, i + 1), m);
+        p[i] = residue::subtract(p[i], x, m);
     }
 }
 
-// h^0 to h^r in the rows of t.
-fn powers(t: &mut [u32], h: &[u32], r: usize, s: usize, m: u64)
-    requires { ⌜ Raised m s r (now h) × (now t ≡ replicate (powers-kept * terms) 0) ⌝ }
-    ensures { λ _. ⌜ Powers m (now (h .entry)) r (now (t .exit)) ⌝ }
+// Whether p is a constant.
+fn is_constant(p: &[u32]) -> bool
+    ensures yes { λ t. ⌜ (t ≡ true → (i : ℕ) → 0 < i → coef (now (p .entry)) i ≡ 0) ⌝ }
+    ensures no { λ t. ⌜ (t ≡ false → (i : ℕ) × (0 < i) × ¬ (coef (now (p .entry)) i ≡ 0)) ⌝ }
 {
-    t[0] = 1;
-    for i in 0..r {
-        next_row(t, h, i, s, m);
-    }
-}
-
-// The coefficient of x^k in the sum of g's coefficients times the rows.
-fn row_sum(g: &[u32], t: &[u32], r: usize, k: usize, m: u64) -> u32
-    requires { ⌜ Modulus m × Summed r k (now g) (now t) ⌝ }
-    ensures { λ c. ⌜ c ≡ row-sum-of m (now (g .entry)) (now (t .entry)) r k ⌝ }
-{
-    residue::strided_product(g, t, 0, r + 1, k, TERMS, m)
-}
-
-// System (1) from the top: what f has at x^(js) and the higher coefficients of g do not give.
-fn solve(f: &[u32], t: &[u32], r: usize, s: usize, m: u64) -> Coefficients
-    requires { ⌜ Solvable m r s (now f) (now t) ⌝ }
-    ensures { λ g. ⌜ Solves m (now (f .entry)) (now (t .entry)) r s g ⌝ }
-{
-    let mut g = [0; TERMS];
-    let mut j = r + 1;
-    while j != 0 {
-        j -= 1;
-        let given = residue::strided_product(
-            &g,
-            t,
-            j + 1,
-            r + 1,
-            (j + 1) * TERMS + j * s,
-            TERMS,
-            m,
-        );
-        g[j] = residue::subtract(f[j * s], given, m);
-    }
-    g
-}
-
-// Whether f agrees with the sum of g's coefficients times the rows at x^0 to x^n.
-fn agrees(f: &[u32], g: &[u32], t: &[u32], r: usize, n: usize, m: u64) -> bool
-    requires { ⌜ Modulus m × Summed r n (now g) (now t) × (length (now f) ≡ terms) ⌝ }
-    ensures yes { λ b. ⌜ (b ≡ true → (k : ℕ) → k ≤ n → coef (now (f .entry)) k ≡ row-sum-of m (now (g .entry)) (now (t .entry)) r k) ⌝ }
-    ensures no { λ b. ⌜ (b ≡ false → (k : ℕ) × (k ≤ n) × ¬ (coef (now (f .entry)) k ≡ row-sum-of m (now (g .entry)) (now (t .entry)) r k)) ⌝ }
-{
-    for k in 0..n + 1 {
-        if f[k] != row_sum(g, t, r, k, m) {
+    let mut i = 1;
+    while i < p.len() {
+        if p[i] != 0 {
             return false;
         }
+        i += 1;
     }
     true
+}
+
+// The lowest digit of p; above it the quotient. Whether the digit is a constant.
+fn digit(p: &mut [u32], h: &[u32], s: usize, m: u64) -> bool
+    requires { ⌜ Divisible m s (now h) (now p) × (s ≤ length (now p)) ⌝ }
+    ensures { λ t. ⌜ Lowest m (now (h .entry)) s 1 (now (p .entry)) (now (p .exit)) t ⌝ }
+{
+    divide(p, h, s, m);
+    is_constant(&p[..s])
+}
+
+// All digits of p, one by one. Whether they are constants; one that is none ends it.
+fn digits(p: &mut [u32], h: &[u32], s: usize, m: u64) -> bool
+    requires { ⌜ Divisible m s (now h) (now p) ⌝ }
+    ensures { λ t. ⌜ Digits m (now (h .entry)) s (now (p .entry)) (now (p .exit)) t ⌝ }
+{
+    let mut at = 0;
+    while s < p.len() - at {
+        if !digit(&mut p[at..], h, s, m) {
+            return false;
+        }
+        at += s;
+    }
+    is_constant(&p[at..])
+}
+
+// The lowest k digits of p at once: the remainder by b = h^k has them. Whether they are constants.
+fn block(p: &mut [u32], h: &[u32], b: &[u32], k: usize, s: usize, m: u64) -> bool
+    requires { ⌜ Divisible m s (now h) (now p) × Raised m (now h) s k (now b) × (0 < k) × (k * s ≤ length (now p)) ⌝ }
+    ensures { λ t. ⌜ Lowest m (now (h .entry)) s k (now (p .entry)) (now (p .exit)) t ⌝ }
+{
+    let w = k * s;
+    divide(p, b, w, m);
+    digits(&mut p[..w], h, s, m)
+}
+
+// All digits of p, k at once by b = h^k as long as there are so many, and the others one by one.
+fn blocks(p: &mut [u32], h: &[u32], b: &[u32], k: usize, s: usize, m: u64) -> bool
+    requires { ⌜ Divisible m s (now h) (now p) × Raised m (now h) s k (now b) × (0 < k) ⌝ }
+    ensures { λ t. ⌜ Digits m (now (h .entry)) s (now (p .entry)) (now (p .exit)) t ⌝ }
+{
+    let w = k * s;
+    let mut at = 0;
+    while w < p.len() - at {
+        if !block(&mut p[at..], h, b, k, s, m) {
+            return false;
+        }
+        at += w;
+    }
+    digits(&mut p[at..], h, s, m)
+}
+
+// h^k, from h itself, in place.
+fn raise(b: &mut [u32], h: &[u32], k: usize, s: usize, m: u64)
+    requires { ⌜ Modulus m × Held m s (now h) × (now b ≡ now h) × (0 < k) × (k * s ≤ limit) ⌝ }
+    ensures { λ _. ⌜ Raised m (now (h .entry)) s k (now (b .exit)) ⌝ }
+{
+    for i in 1..k {
+        composition::step(b, 0, h, s, (i + 1) * s, m);
+    }
+}
+
+// How many digits are taken at once where there are r: about the root of r, so that either division is short.
+fn at_once(r: usize) -> usize
+    requires { ⌜ 0 < r ⌝ }
+    ensures { λ k. ⌜ (0 < k) × (k ≤ r) ⌝ }
+{
+    if r < 6 {
+        return 1;
+    }
+    if r < 16 {
+        return 2;
+    }
+    if r < 40 {
+        return 4;
+    }
+    8
+}
+
+// All digits of p, of degree r * s: the first one by itself, as there most polynomials that are no g(h) show it.
+fn expand(p: &mut [u32], h: &Coefficients, r: usize, s: usize, m: u64) -> bool
+    requires { ⌜ Divisible m s (now h) (now p) × (length (now p) ≡ r * s + 1) × (0 < r) ⌝ }
+    ensures { λ t. ⌜ Digits m (now (h .entry)) s (now (p .entry)) (now (p .exit)) t ⌝ }
+{
+    if !digit(p, h, s, m) {
+        return false;
+    }
+    let k = at_once(r);
+    let mut b = *h;
+    raise(&mut b, h, k, s, m);
+    blocks(&mut p[s..], h, &b, k, s, m)
+}
+
+// The constants of the digits 0 to r, as a polynomial.
+fn constants(a: &[u32], r: usize, s: usize) -> Coefficients
+    requires { ⌜ (length (now a) ≡ terms) × (0 < s) × (r * s ≤ limit) ⌝ }
+    ensures { λ g. ⌜ Constants s (r + 1) (now (a .entry)) g ⌝ }
+{
+    let mut g = [0; TERMS];
+    for i in 0..r + 1 {
+        g[i] = a[i * s];
+    }
+    g
 }
 
 // The left part of f, of degree n = r * s, for the right part h of degree s; No. 7 if there is none.
@@ -94,14 +155,12 @@ pub fn left_part(f: Coefficients, h: Coefficients, n: usize, r: usize, s: usize,
     requires { ⌜ LeftAsked m n r s f h ⌝ }
     ensures { λ x. ⌜ LeftAnswer m f r h x ⌝ }
 {
-    let mut t = [0; WORDS];
-    powers(&mut t, &h, r, s, m);
-    let g = solve(&f, &t, r, s, m);
-    if !agrees(&f, &g, &t, r, n, m) {
+    let mut a = f;
+    if !expand(&mut a[..n + 1], &h, r, s, m) {
         return polynomial::nothing(refusal::refused(Concerns::Neither, Reason::NoPair));
     }
     Answer {
         outcome: Outcome::Answered,
-        polynomial: g,
+        polynomial: constants(&a, r, s),
     }
 }

@@ -1,52 +1,52 @@
-use mathlib.Core.Path.{refl, ap, _∙_}
+use mathlib.Core.Path.{refl, sym, ap, _∙_}
 use native.Mathlib.Omega.{arith}
 use borrow.Author.Needs.{needs}
 use borrow.Author.Tests.{not-true, not-false}
+use lib.Seq.{length-take-le}
 use Rattle.algebra.specs.Polynomial.{terms, limit}
 use Rattle.polynomial.specs.Answers.{nothing}
-use Rattle.left.specs.Powers.{powers-kept}
 use Rattle.left.specs.Left.{none, found}
-use Rattle.left.proofs.Rowing.{row-within}
-use Rattle.left.proofs.Comparing.{agreed, differed}
+use Rattle.left.proofs.Found.{asked-divisible, asked-long, digits-terms, digits-none, digits-found}
 use Rattle.left.proofs.left_part.Statement.{statement}
 use Rattle.left.proofs.left_part.Tie as tie
 
--- the array of zeros is the list of zeros by computation
-powers-requires : tie.Need-powers-requires
-unfolding powers-kept terms limit
-powers-requires c κs =
+slice-aggregate-expand : tie.Need-slice-aggregate-expand
+unfolding terms
+slice-aggregate-expand c = sym (length-take-le _ _ (omega (arith, c .before .pre .whole .within, c .before .pre .whole .reduced .long)))
+
+expand-requires : tie.Need-expand-requires
+expand-requires c κs =
     let p = c .before .before .pre in
-    (record { modulus = p .modulus; held = p .right; two = p .degrees .two-right; within = omega arith }, refl)
+    (asked-divisible p, asked-long p, omega (arith, p .degrees .two-left))
 
-agrees-requires : tie.Need-agrees-requires
-agrees-requires c κs =
-    let p = c .before .before .before .before .before .before .before .before .before .before .pre in
-    (p .modulus, record { left = c .before .before .before .solve .ensures .reduced .long; long = c .before .before .before .before .before .before .before .powers .ensures .long; row = row-within (p .degrees .two-right) (omega arith); power = p .degrees .within }, p .whole .reduced .long)
-
--- No. 7: a place differs
+-- No. 7: a digit is no constant
 returns : tie.Need-returns
-returns c =
-    let (k, l, ne) = c .before .before .before .agrees .ensures .1 (not-true _ (c .before .before .if1 .taken)) in
-    none (differed (c .before .before .before .before .before .before .before .before .before .before .before .before .before .before .pre) (c .before .before .before .before .before .before .before .before .before .before .before .powers .ensures) (c .before .before .before .before .before .before .before .solve .ensures) k l ne) (c .nothing .ensures ∙ ap nothing (c .before .refused .ensures))
+returns c = none (digits-none (c .before .before .before .before .before .before .before .pre) (c .before .before .before .before .expand .ensures) (not-true _ (c .before .before .if1 .taken))) (c .nothing .ensures ∙ ap nothing (c .before .refused .ensures))
+
+slice-aggregate-constants : tie.Need-slice-aggregate-constants
+unfolding terms limit
+slice-aggregate-constants c = sym (digits-terms (c .before .before .before .before .before .before .pre) (c .before .before .before .expand .ensures))
+
+constants-requires : tie.Need-constants-requires
+constants-requires c κs =
+    let p = c .before .before .before .before .before .before .pre in
+    (digits-terms p (c .before .before .before .expand .ensures), omega (arith, p .degrees .two-right), omega (arith, p .degrees .product, p .degrees .within))
 
 returns-2 : tie.Need-returns-2
-returns-2 c = found (agreed (c .before .before .before .before .before .before .before .before .before .before .before .before .pre) (c .before .before .before .before .before .before .before .before .before .powers .ensures) (c .before .before .before .before .before .solve .ensures) (c .before .agrees .ensures .0 (not-false _ (c .if1 .left)))) refl
+returns-2 c = found (digits-found (c .before .before .before .before .before .before .before .pre) _ (c .before .before .before .before .expand .ensures) (not-false _ (c .before .before .if1 .left)) (c .constants .ensures)) refl
 
 pub left-part-spec : {M : Type 1} → statement M
+unfolding terms limit
 left-part-spec =
     tie.close
     (tie.spec
     (λ c. search needs)
     (λ c. search needs)
-    powers-requires
-    (λ c. search needs)
-    (λ c. search needs)
-    (λ c κs. search needs)
-    (λ c. search needs)
-    (λ c. search needs)
-    (λ c. search needs)
-    agrees-requires
+    slice-aggregate-expand
+    expand-requires
     (λ c κs. search needs)
     (λ c κs. search needs)
     returns
+    slice-aggregate-constants
+    constants-requires
     returns-2)

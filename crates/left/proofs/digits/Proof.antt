@@ -1,0 +1,75 @@
+use Prim.Native.Nat.{_+_, _-_}
+use native.Mathlib.Omega.{arith}
+use borrow.Author.Needs.{needs}
+use borrow.Author.Tests.{not-true, not-false}
+use lib.ListN.{length, length-drop, take-append-drop}
+use Rattle.algebra.specs.Polynomial.{terms, limit}
+use Rattle.left.proofs.Expanding.{Reached, reached-none, reached-more, reached-no, reached-last, reached-divisible, lent, returned, flat-digits}
+use Rattle.left.proofs.digits.Statement.{statement}
+use Rattle.left.proofs.digits.Tie as tie
+
+abbrev Inv-loop : tie.InvT-loop
+Inv-loop p₀ h s m at₀ p at = Reached m h s p₀ at p
+
+abbrev μ-loop : tie.MeasureT-loop
+μ-loop p₀ h s m at₀ p at = length p - at
+
+loop-holds : tie.Need-loop-holds Inv-loop μ-loop
+loop-holds c = reached-none (c .before .before .pre)
+
+digit-requires : tie.Need-digit-requires Inv-loop μ-loop
+digit-requires c κs =
+    let d = c .before .before .before .before .before .pre in
+    let l = c .before .before .loop in
+    rw (lent (d .above-zero) (l .inv)) (reached-divisible (d .above-zero) (l .inv) d, omega (arith, length-drop (l .at) (l .p), c .before .loop-test .taken))
+
+same-length : tie.Need-same-length Inv-loop μ-loop
+same-length c = search needs
+
+returns : tie.Need-returns Inv-loop μ-loop
+returns c =
+    let d = c .before .before .before .before .before .before .before .before .before .pre in
+    let l = c .before .before .before .before .before .before .loop in
+    rw (returned (d .above-zero) (l .inv) _) (reached-no (d .above-zero) (l .inv) 1 (rw (lent (d .above-zero) (l .inv)) at (c .before .before .before .digit .ensures)) (not-true _ (c .if1 .taken)))
+
+loop-again : tie.Need-loop-again Inv-loop μ-loop
+loop-again c =
+    let d = c .before .before .before .before .before .before .before .before .before .pre in
+    let l = c .before .before .before .before .before .before .loop in
+    rw (returned (d .above-zero) (l .inv) _) (reached-more (d .above-zero) (l .inv) 1 (omega arith) (omega (arith, c .before .before .before .before .before .loop-test .taken)) (rw (lent (d .above-zero) (l .inv)) at (c .before .before .before .digit .ensures)) (not-false _ (c .if1 .left)))
+
+is-constant-requires : tie.Need-is-constant-requires Inv-loop μ-loop
+is-constant-requires c κs = search needs
+
+returns-2 : tie.Need-returns-2 Inv-loop μ-loop
+returns-2 c =
+    let d = c .before .before .before .before .before .before .before .pre in
+    let l = c .before .before .before .before .loop in
+    rw (take-append-drop (l .at) (l .p)) at (reached-last (d .above-zero) (l .inv) (flat-digits (reached-divisible (d .above-zero) (l .inv) d) (omega (arith, length-drop (l .at) (l .p), c .before .before .before .loop-test .left)) (rw (lent (d .above-zero) (l .inv)) at (c .is-constant .ensures .0)) (rw (lent (d .above-zero) (l .inv)) at (c .is-constant .ensures .1))))
+
+pub digits-spec : {M : Type 1} → statement M
+unfolding terms limit
+digits-spec =
+    tie.close
+    (tie.spec
+    Inv-loop
+    μ-loop
+    loop-holds
+    (λ c. omega (arith, c .loop .inv .inside))
+    (λ c. search needs)
+    (λ c. search needs)
+    (λ c. search needs)
+    (λ c. search needs)
+    digit-requires
+    same-length
+    returns
+    (λ c. search needs)
+    (λ c. search needs)
+    loop-again
+    (λ c. search needs)
+    (λ c. search needs)
+    (λ c. search needs)
+    (λ c. search needs)
+    is-constant-requires
+    (λ c. search needs)
+    returns-2)
