@@ -107,7 +107,7 @@ fn raise(b: &mut [u32], h: &[u32], k: usize, s: usize, m: u64)
     }
 }
 
-// How many digits are taken at once where there are r: about the root of r, so that either division is short.
+// How many digits are taken at once where there are r. What is fastest was measured (bench/README.md).
 fn at_once(r: usize) -> usize
     requires { ⌜ 0 < r ⌝ }
     ensures { λ k. ⌜ (0 < k) × (k ≤ r) ⌝ }
@@ -115,13 +115,13 @@ fn at_once(r: usize) -> usize
     if r < 6 {
         return 1;
     }
-    if r < 16 {
+    if r < 14 {
         return 2;
     }
-    if r < 40 {
-        return 4;
+    if r < 32 {
+        return 3;
     }
-    8
+    5
 }
 
 // All digits of p, of degree r * s: the first one by itself, as there most polynomials that are no g(h) show it.

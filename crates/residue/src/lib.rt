@@ -177,16 +177,21 @@ fn whole(x: u32, y: u32) -> u64
     x as u64 * y as u64
 }
 
-// The sum of a[i] * b[k - i] for i from lo to hi - 1, round at 2^32.
+// The sum of a[i] * b[k - i] for i from lo to hi - 1, round at 2^32. Its last term stays out of the loop: a division in place
+// has just stored it, and the loop's loads, of several words at a time, would wait for that store.
 fn inner_words(a: &[u32], b: &[u32], k: usize, lo: usize, hi: usize) -> u32
     requires { ⌜ Within (length (now a)) (length (now b)) k lo hi ⌝ }
     ensures { λ r. ⌜ r ≡ inner (now (a .entry)) (now (b .entry)) k lo (hi - lo) % 2 ^ 32 ⌝ }
 {
+    if lo == hi {
+        return 0;
+    }
+    let last = hi - 1;
     let mut w = 0;
-    for i in lo..hi {
+    for i in lo..last {
         w = add_words(w, multiply_words(a[i], b[k - i]));
     }
-    w
+    add_words(w, multiply_words(a[last], b[k - last]))
 }
 
 // The sum of a[i] * b[k - i] for i from lo to hi - 1, modulo m. Nothing is divided inside the loop: but for 2^32 the sum is exact.
