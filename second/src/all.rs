@@ -5,8 +5,9 @@ use crate::law::{
     self, changed_chain, changed_split, read_composed, read_written, round_trip, written_read,
 };
 use crate::operation::{
-    self, chain, change_pair, change_polynomial, check, combine, compose, left_part, part,
-    read_sheet, split, tiny_chain, tiny_left_part, tiny_split, undo, write_sheet,
+    self, chain, change_pair, change_polynomial, check, combine, compose, left_part,
+    near_left_part, near_split, part, read_sheet, split, tiny_chain, tiny_left_part, tiny_split,
+    undo, write_sheet,
 };
 
 pub const ALL: &[Entry] = &[
@@ -14,8 +15,10 @@ pub const ALL: &[Entry] = &[
     operation::entry::<compose::Compose>(),
     operation::entry::<left_part::LeftPart>(),
     operation::entry::<tiny_left_part::TinyLeftPart>(),
+    operation::entry::<near_left_part::NearLeftPart>(),
     operation::entry::<split::Split>(),
     operation::entry::<tiny_split::TinySplit>(),
+    operation::entry::<near_split::NearSplit>(),
     operation::entry::<change_polynomial::ChangePolynomial>(),
     operation::entry::<change_pair::ChangePair>(),
     operation::entry::<combine::Combine>(),

@@ -1,35 +1,55 @@
 //! Left part, pair and chain by this program's own methods: the left part by
-//! division with remainder, the right part as a root of the reversed
-//! polynomial. Every polynomial here is taken, that is not refused by 1 to 4.
+//! the triangular system (1) of 000 and a composition in full, the right part
+//! as a root of the reversed polynomial. Every polynomial here is taken, that
+//! is not refused by 1 to 4.
 
-use crate::division::divide;
 use crate::modulus::Modulus;
 use crate::polynomial::Polynomial;
-use crate::series::root;
+use crate::residue::{reduced, subtract};
+use crate::series::{product, root};
+use std::iter;
 
 /// g and h, the left part and the right one.
 pub type Pair = (Polynomial, Polynomial);
 
 /// The g with f = g(h), if there is one, for any monic h whose degree divides
-/// that of f.
-///
-/// f is written to the base h: f = d_0 + h·(d_1 + h·(d_2 + ..)), each d of a
-/// lower degree than h. There is one way only to write it so, and f is some
-/// g(h) exactly if every d is a constant: then the d are the coefficients of g.
+/// that of f: the forced one, if it composes to f. "Compute g∘h and compare
+/// with f" (000, Algorithm 3.4): that is at every power of x.
 pub fn left_part(f: &Polynomial, h: &Polynomial, m: Modulus) -> Option<Polynomial> {
+    let s = h.degree().expect("h is taken");
+    let n = f.degree().expect("f is taken");
+    let powers = powers(h, n / s, m);
+    let g = forced_left_part(f, &powers, s, m);
+    let agree = |k: usize| sum(&g, &powers, k, m) == f.0[k];
+    (0..=n).all(agree).then_some(g)
+}
+
+/// The monic g for which g(h) and f agree at every power x^(is).
+///
+/// There the coefficient of f is the sum of g_j times that of h^j (000, system
+/// (1)). Below h^i no power of h comes up to x^(is), and in h^i it has 1: so
+/// g_i is what the g_j above it leave of the coefficient of f, from the top
+/// down. Nothing is divided by, and m may be any.
+fn forced_left_part(f: &Polynomial, powers: &[Vec<u32>], s: usize, m: Modulus) -> Polynomial {
     let mut g = Polynomial::ZERO;
-    let mut rest = f.used().to_vec();
-    let mut place = 0;
-    while !rest.is_empty() {
-        let (quotient, digit) = divide(&rest, h.used(), m);
-        if digit.iter().skip(1).any(|&c| c != 0) {
-            return None;
-        }
-        g.0[place] = digit.first().copied().unwrap_or(0);
-        rest = quotient;
-        place += 1;
+    for i in (0..powers.len()).rev() {
+        g.0[i] = subtract(f.0[i * s], sum(&g, powers, i * s, m), m);
     }
-    Some(g)
+    g
+}
+
+/// The coefficient of x^k in the sum of the g_j·h^j.
+fn sum(g: &Polynomial, powers: &[Vec<u32>], k: usize, m: Modulus) -> u32 {
+    let terms = powers.iter().zip(&g.0);
+    let reach = terms.filter_map(|(p, &c)| Some(u128::from(*p.get(k)?) * u128::from(c)));
+    reduced(reach.sum(), m)
+}
+
+/// h^0 to h^r, each in full.
+fn powers(h: &Polynomial, r: usize, m: Modulus) -> Vec<Vec<u32>> {
+    let h = h.used();
+    let next = |last: &Vec<u32>| Some(product(last, h, last.len() + h.len() - 1, m));
+    iter::successors(Some(vec![1]), next).take(r + 1).collect()
 }
 
 /// The degrees that a part of a pair may have, from the smallest up: d divides
@@ -59,7 +79,7 @@ pub fn pair(f: &Polynomial, r: usize, m: Modulus) -> Option<Pair> {
     let n = f.degree().expect("f is taken");
     let h = right_part(f, r, n / r, m);
     let g = left_part(f, &h, m)?;
-    // "The forced pair may still fail to compose to f": the division has seen
+    // "The forced pair may still fail to compose to f": the left part has seen
     // to it. That it has is worth the time here, where nothing is proved.
     assert!(g.compose(&h, m).as_ref() == Some(f), "own pair is no pair");
     Some((g, h))

@@ -191,6 +191,11 @@ pub fn residue(random: &mut Random, m: Modulus) -> u32 {
     }
 }
 
+/// The same from 1 to m - 1; an edge at times: at 2^32 the highest bit alone.
+pub fn not_zero(random: &mut Random, m: Modulus) -> u32 {
+    residue(random, m).max(1)
+}
+
 /// n from 2 to 126.
 pub fn degree(random: &mut Random) -> usize {
     if random.once_in(2) {

@@ -5,12 +5,13 @@
 //! It answers every operation of the desk by itself, from 01 and 02 alone and
 //! sharing no code with the desk, calls the desk's static library with the same
 //! input, and stops at the first difference. Where it can, it goes another way
-//! than the desk: the left part by division with remainder, the right part as a
-//! root of the reversed polynomial, changes by binomials, and for tiny sizes all
-//! of it by going through all g and h. Then it holds the desk against itself, as
-//! the demands 2 and 3 say, and request No. 2 of its sheets. About one input in
-//! seven is at modulus 2^32 (request No. 3), and what was met there is counted
-//! apart.
+//! than the desk: the left part by the powers of h and the triangular system of
+//! 000, the right part as a root of the reversed polynomial, changes by
+//! binomials, and for tiny sizes all of it by going through all g and h. Left
+//! part and split are asked at all degrees of a pair, of g(h) and of f that is
+//! another at any one place. Then it holds the desk against itself, as the
+//! demands 2 and 3 say, and request No. 2 of its sheets. About one input in seven
+//! is at modulus 2^32 (request No. 3), and what was met there is counted apart.
 //!
 //! N inputs are compared over all operations, after the worked cases of 01 and
 //! of 2^32. Each operation gets its share of them, the cheaper ones more; without N it
@@ -36,13 +37,14 @@ mod composition;
 mod damage;
 mod decomposition;
 mod desk;
-mod division;
 mod entry;
 mod inputs;
 mod law;
 mod lent;
+mod list;
 mod listing;
 mod modulus;
+mod near;
 mod operation;
 mod polynomial;
 mod progress;

@@ -11,6 +11,8 @@ pub mod check;
 pub mod combine;
 pub mod compose;
 pub mod left_part;
+pub mod near_left_part;
+pub mod near_split;
 pub mod part;
 pub mod read_sheet;
 pub mod split;

@@ -202,8 +202,6 @@ pub fn nearly(mut f: Polynomial, m: Modulus, random: &mut Random) -> Polynomial 
         0 => random.between(0, 3.min(n - 1)),
         _ => random.between(0, n - 1),
     };
-    // An edge at times: at 2^32 the highest bit alone.
-    let more = inputs::residue(random, m).max(1);
-    f.0[power] = add(f.0[power], more, m);
+    f.0[power] = add(f.0[power], inputs::not_zero(random, m), m);
     f
 }

@@ -5,11 +5,12 @@ use super::chain::{self, ChainIn, PARTS};
 use super::{Operation, Own, Worked};
 use crate::answer::Chained;
 use crate::asked::Asked;
+use crate::list::List;
 use crate::modulus::Modulus;
 use crate::random::Random;
 use crate::residue::shares_factor;
 use crate::tally::Wanted;
-use crate::tiny::{self, List, Size};
+use crate::tiny::{self, Size};
 use std::sync::OnceLock;
 
 pub struct TinyChain;

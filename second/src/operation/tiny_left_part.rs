@@ -6,10 +6,11 @@ use crate::answer::One;
 use crate::asked::Asked;
 use crate::decomposition::{self, part_degrees};
 use crate::inputs::choose;
+use crate::list::List;
 use crate::modulus::Modulus;
 use crate::random::Random;
 use crate::tally::Wanted;
-use crate::tiny::{self, List, Size};
+use crate::tiny::{self, Size};
 use left_part::NO_LEFT_PART;
 use std::sync::OnceLock;
 
@@ -66,8 +67,8 @@ impl Operation for TinyLeftPart {
         Own::found(due, NO_LEFT_PART, One::refused_with, || {
             let (f, h, m) = (asked.first(), asked.second(), asked.m);
             let found = tiny::left_part(f, h, m);
-            let divided = decomposition::left_part(f, h, m);
-            assert!(found == divided, "the two own ways to a left part differ");
+            let solved = decomposition::left_part(f, h, m);
+            assert!(found == solved, "the two own ways to a left part differ");
             found.map(One::answered)
         })
     }

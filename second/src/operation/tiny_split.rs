@@ -5,10 +5,11 @@ use super::{split, Operation, Own, Worked};
 use crate::answer::Two;
 use crate::asked::Asked;
 use crate::decomposition::{self, part_degrees};
+use crate::list::List;
 use crate::modulus::Modulus;
 use crate::random::Random;
 use crate::tally::Wanted;
-use crate::tiny::{self, List, Size};
+use crate::tiny::{self, Size};
 use split::{SplitAt, NO_PAIR, SHARING};
 use std::sync::OnceLock;
 
