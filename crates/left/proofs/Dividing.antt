@@ -57,11 +57,11 @@ restored m a b pos = N.mod-add-mod (a + (m - b % m)) m b
     whole q c l e = omega arith
 
 -- one place further down: the sums above do not look at it
-pub dividing-more : {m s j lo hi x y : ℕ} {h p q : List ℕ} (i : ℕ) → 0 < m → j ≡ i + 1 → i < length p
-    → lo ≡ j + s - min (j + s) (length q) → hi ≡ min s (i + 1) → lo ≤ hi
-    → x ≡ inner h q (i + s) lo (hi - lo) % m → y ≡ (coef q i + (m - x)) % m
+pub dividing-more : {m s j a lo hi x y : ℕ} {h p q : List ℕ} (i : ℕ) → 0 < m → j ≡ i + 1 → i < length p
+    → a ≡ i + s → lo ≡ j + s - min (j + s) (length q) → hi ≡ min s j → lo ≤ hi
+    → x ≡ inner h q a lo (hi - lo) % m → y ≡ (coef q i + (m - x)) % m
     → Dividing m h s p j q → Dividing m h s p i (set q i y)
-dividing-more {m} {s} {j} {lo} {hi} {x} {y} {h} {p} {q} i pos ej inside elo ehi order ex ey c =
+dividing-more {m} {s} {j} {a} {lo} {hi} {x} {y} {h} {p} {q} i pos ej inside ea elo ehi order ex ey c =
     record {
       long = length-set q i y ∙ c .long;
       below = λ k. small k (ℕ-discrete k i);
@@ -83,10 +83,10 @@ dividing-more {m} {s} {j} {lo} {hi} {x} {y} {h} {p} {q} i pos ej inside elo ehi 
     above k l = ap₂ (λ (u v : ℕ). (u + v) % m) (getD-set-other q i k y 0 (omega arith)) (kept k (omega arith)) ∙ c .is k (omega arith)
 
     -- the sum's first terms lie past the end of the list
-    whole : inner h q (i + s) lo (hi - lo) ≡ given h s q i
+    whole : inner h q a lo (hi - lo) ≡ given h s q i
     whole =
         let e : min s (i + 1) ≡ lo + (hi - lo) = omega arith in
-        sym (ap (inner h q (i + s) 0) e ∙ inner-split h q (i + s) 0 lo (hi - lo)
+        ap (λ (n : ℕ). inner h q n lo (hi - lo)) ea ∙ sym (ap (inner h q (i + s) 0) e ∙ inner-split h q (i + s) 0 lo (hi - lo)
         ∙ ap₂ _+_ (inner-zeros h q (i + s) 0 lo (λ k a b. right-zero _ _ (List·getD-eq-default q 0 (omega arith)))) (ap (λ (n : ℕ). inner h q (i + s) n (hi - lo)) (N.zero-add lo)) ∙ N.zero-add _)
 
     here : (coef (set q i y) i + given h s (set q i y) i) % m ≡ coef p i % m
@@ -94,9 +94,9 @@ dividing-more {m} {s} {j} {lo} {hi} {x} {y} {h} {p} {q} i pos ej inside elo ehi 
         ∙ restored m (coef q i) (given h s q i) pos ∙ ap (λ (z : ℕ). z % m) (c .still i (omega arith))
 
 -- the terms of a place's sum are there
-pub dividing-range : {i j s n lh x hi : ℕ} → j ≡ i + 1 → i < n → s ≤ n → s < lh → lh ≡ terms → x ≡ min (j + s) n → hi ≡ min s (i + 1) → Within lh n (i + s) (j + s - x) hi
+pub dividing-range : {a j s n lh x hi : ℕ} → a < j + s → s < a + 2 → j ≤ n → s ≤ n → s < lh → lh ≡ terms → x ≡ min (j + s) n → hi ≡ min s j → Within lh n a (j + s - x) hi
 unfolding terms limit
-dividing-range e a b c d ex ehi = record { order = omega arith; first = omega arith; down = omega arith; second = omega arith; few = omega arith }
+dividing-range la lb a b c d ex ehi = record { order = omega arith; first = omega arith; down = omega arith; second = omega arith; few = omega arith }
 
 -- all places
 pub divided : {m s : ℕ} {h p q : List ℕ} → Divisible m s h p → Dividing m h s p 0 q → Divided m h s p q

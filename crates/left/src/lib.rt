@@ -23,11 +23,12 @@ fn divide(p: &mut [u32], h: &[u32], s: usize, m: u64)
     ensures { λ _. ⌜ Divided m (now (h .entry)) s (now (p .entry)) (now (p .exit)) ⌝ }
 {
     let mut i = p.len();
-    while i != 0 {
+    while 0 < i {
         let k = i + s;
-        i -= 1;
         let lo = k - polynomial::smaller(k, p.len());
-        let x = residue::inner_product(h, p, i + s, lo, polynomial::smaller(s, i + 1), m);
+        let hi = polynomial::smaller(s, i);
+        i -= 1;
+        let x = residue::inner_product(h, p, k - 1, lo, hi, m);
         p[i] = residue::subtract(p[i], x, m);
     }
 }

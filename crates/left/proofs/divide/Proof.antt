@@ -1,4 +1,4 @@
-use mathlib.Core.Path.{refl}
+use mathlib.Core.Path.{_≡_, refl}
 use Prim.Native.Nat.{_≤_}
 use native.Mathlib.Nat.{mod-lt}
 use native.Mathlib.Omega.{arith}
@@ -29,7 +29,7 @@ unfolding terms
 inner-product-requires c κs =
     let p = c .before .before .before .before .before .before .before .pre in
     let e = c .before .before .before .before .loop .inv .1 .long in
-    (p .0 .modulus, dividing-range (omega arith) (omega arith) (omega arith) (omega (arith, p .0 .right .within, p .0 .right .reduced .long)) (p .0 .right .reduced .long) (c .before .before .smaller .ensures) (c .smaller2 .ensures))
+    (p .0 .modulus, dividing-range (omega arith) (omega arith) (omega arith) (omega arith) (omega (arith, p .0 .right .within, p .0 .right .reduced .long)) (p .0 .right .reduced .long) (c .before .before .smaller .ensures) (c .before .smaller2 .ensures))
 
 subtract-requires : tie.Need-subtract-requires Inv-loop μ-loop
 subtract-requires c κs =
@@ -41,13 +41,15 @@ loop-again : tie.Need-loop-again Inv-loop μ-loop
 loop-again c =
     let p = c .before .before .before .before .before .before .before .before .before .before .pre in
     let l = c .before .before .before .before .before .before .before .loop .inv in
-    (omega arith, dividing-more _ (omega (arith, p .0 .modulus .above-one)) (omega arith) (omega arith) (omega arith) (omega arith) (omega arith) (c .before .before .inner-product .ensures) (c .subtract .ensures) (l .1))
+    (omega arith, dividing-more _ (omega (arith, p .0 .modulus .above-one)) (omega arith) (omega arith) (omega arith) (omega arith) (omega arith) (omega arith) (c .before .before .inner-product .ensures) (c .subtract .ensures) (l .1))
 
 same-length : tie.Need-same-length Inv-loop μ-loop
 same-length c = c .before .loop .inv .1 .long
 
 returns : tie.Need-returns Inv-loop μ-loop
-returns c = let e = c .loop-test .left in divided (c .before .before .before .before .pre .0) (rw e at (c .before .loop .inv .1))
+returns c =
+    let e : c .before .loop .i ≡ 0 = omega arith in
+    divided (c .before .before .before .before .pre .0) (rw e at (c .before .loop .inv .1))
 
 pub divide-spec : {M : Type 1} → statement M
 unfolding terms limit
@@ -58,12 +60,11 @@ divide-spec =
     μ-loop
     loop-holds
     add-k
+    (λ c κs. search needs)
     (λ c. omega arith)
     (λ c κs. search needs)
     (λ c. omega arith)
-    (λ c. search needs)
-    (λ c. search needs)
-    (λ c κs. search needs)
+    (λ c. omega arith)
     inner-product-requires
     (λ c. search needs)
     (λ c. search needs)
