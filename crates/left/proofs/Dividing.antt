@@ -7,15 +7,14 @@
 use mathlib.Core.Path.{_≡_, refl, sym, ap, ap₂, _∙_}
 use mathlib.Core.Logic.{⊎-elim}
 use mathlib.Core.List.{List}
-use Prim.Native.Nat.{ℕ, suc, _+_, _*_, _-_, _/_, _%_, _^_, _≤_, _<_, min}
+use Prim.Native.Nat.{ℕ, suc, _+_, _*_, _-_, _/_, _%_, _≤_, _<_, min}
 use native.Mathlib.Nat as N
-use native.Mathlib.Numerals.{add-one}
 use native.Mathlib.Omega.{arith}
 use native.Mathlib.Decide.{ℕ-discrete, decLt}
 use lib.ListN.{length, take, drop, set, length-set, length-take, List·getD-eq-default}
 use lib.Seq.{getD-set-same, getD-set-other, getD-take, getD-drop}
 use Rattle.algebra.specs.Number.{sum}
-use Rattle.algebra.specs.Polynomial.{coef, plus, times, limit, terms, Held}
+use Rattle.algebra.specs.Polynomial.{coef, times, limit, terms}
 use Rattle.algebra.proofs.Numbers.{sum-more, sum-ext, sum-clip}
 use Rattle.algebra.proofs.Coefficients.{coef-plus, coef-times}
 use Rattle.algebra.proofs.Reduction.{reduced-above}

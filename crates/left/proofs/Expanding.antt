@@ -18,7 +18,7 @@ use native.Mathlib.Omega.{arith}
 use native.Mathlib.Decide.{decLt}
 use lib.ListN.{length, take, drop, length-take, length-drop, length-append, take-append-drop, drop-of-length-le, List·getD-eq-default}
 use lib.Seq.{getD-take, getD-drop, length-take-le, take-all, take-at, drop-at, drop-drop}
-use Rattle.algebra.specs.Polynomial.{coef, plus, times, after, terms, Same, Held}
+use Rattle.algebra.specs.Polynomial.{coef, after, Same, Held}
 use Rattle.algebra.proofs.Polynomials.{_⨾_, same-refl, same-sym, plus-same, plus-comm, plus-nothing, times-comm, times-nothing, after-same, constant-after}
 use Rattle.algebra.proofs.Division.{parts-after, left-part-unique}
 use Rattle.left.specs.Division.{Divisible, Divided, Raised, First, Lowest, Digits}

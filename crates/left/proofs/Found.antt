@@ -16,7 +16,7 @@ use native.Mathlib.Omega.{arith}
 use native.Mathlib.Decide.{decLt}
 use lib.ListN.{length, take, drop, set, length-set, length-append, length-drop, replicate, length-replicate, List·getD-eq-default}
 use lib.Seq.{getD-set-same, getD-set-other, getD-take, length-take-le}
-use Rattle.algebra.specs.Polynomial.{coef, after, limit, terms, Same, Monic, Reduced}
+use Rattle.algebra.specs.Polynomial.{coef, after, limit, terms, Same}
 use Rattle.algebra.proofs.Polynomials.{_⨾_, same-sym}
 use Rattle.algebra.proofs.Coefficients.{after-end}
 use Rattle.algebra.proofs.Reduction.{reduced-above}

@@ -3,7 +3,7 @@
 --   raised-one       h itself
 --   raised-room      one product more is within the limit
 --   raised-more      and gives one power more
-use mathlib.Core.Path.{_≡_, refl, sym}
+use mathlib.Core.Path.{_≡_, refl}
 use mathlib.Core.List.{List, [], _∷_}
 use Prim.Native.Nat.{ℕ, zero, suc, _+_, _*_, _%_, _≤_, _<_}
 use native.Mathlib.Nat as N

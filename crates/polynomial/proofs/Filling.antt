@@ -3,7 +3,6 @@
 --   Filled n f r i            r has n entries, and the first i are f's
 --   filled-none, filled-more  at the start, and after one more store
 --   filled-all                at the end
---   filled-here               a place that holds its value already needs no store
 --   zeros                     a list of zeros holds 0 at every place, and past its end
 --   Down n f k old l          l was old, and is overwritten from the top: the entries above k are f's, the others still old's
 --   down-none, down-more      at the start, and after one more store
@@ -46,14 +45,6 @@ pub filled-all : {n : ℕ} {f : ℕ → ℕ} {r : List ℕ} {i : ℕ} → n ≤ 
 filled-all {n} {f} {r} {i} h c =
     ext-getD 0 r (table n f) (c .long ∙ sym (table-length n f))
     (λ k l. let e = c .long in c .is k (omega arith) ∙ sym (table-below n f k (omega arith)))
-
--- nothing is stored at i, where the value stands already
-pub filled-here : {n : ℕ} {f : ℕ → ℕ} {r : List ℕ} {i : ℕ} → getD r i 0 ≡ f i → Filled n f r i → Filled n f r (i + 1)
-filled-here {f = f} {r = r} {i = i} h c =
-    record {
-      long = c .long;
-      is = λ k l. ⊎-elim (λ (q : k ≡ i). rw q h) (λ (q : k < i). c .is k q) (eq-or-lt-of-le (omega arith));
-    }
 
 -- a list of zeros holds 0 everywhere
 pub zeros : (n k : ℕ) → coef (replicate n 0) k ≡ 0

@@ -1,8 +1,7 @@
 use mathlib.Core.Path.{_≡_, refl}
-use Prim.Native.Nat.{_+_, _*_, _-_, _≤_}
+use Prim.Native.Nat.{_+_, _-_, _≤_}
 use native.Mathlib.Omega.{arith}
 use native.Mathlib.Nat as N
-use borrow.Author.Needs.{needs}
 use Rattle.algebra.specs.Polynomial.{terms, limit}
 use Rattle.left.specs.Division.{Constants}
 use Rattle.left.proofs.Found.{constants-none, constants-more, constant-place}

@@ -1,7 +1,6 @@
 use mathlib.Core.Path.{_≡_}
-use Prim.Native.Nat.{_+_, _-_, _≤_, _<_}
+use Prim.Native.Nat.{_-_, _≤_}
 use native.Mathlib.Omega.{arith}
-use native.Mathlib.Nat as N
 use borrow.Author.Needs.{needs}
 use Rattle.algebra.specs.Polynomial.{limit}
 use Rattle.left.specs.Division.{Raised}
