@@ -1,17 +1,14 @@
 use crate::desk::desk_compose;
-use crate::plain::{accepted, degree, two_products, Below, Modulus, Polynomial, Words, TERMS};
+use crate::plain::{accepted, degree, step, Below, Modulus, Polynomial, Words, TERMS};
 use crate::split::monic;
 use crate::timing::{at, beside, Random};
 use std::hint::black_box;
 
-/// g(h) by Horner's rule, each step in place from the top power down, as the desk does it.
+/// g(h) by Horner's rule, each step in place, as the desk does it.
 fn horner<M: Modulus>(g: &Polynomial, r: usize, h: &Polynomial, s: usize, m: M) -> Polynomial {
     let mut p = [0; TERMS];
     for i in (0..=r).rev() {
-        for k in (1..=(r - i) * s).rev() {
-            p[k] = m.inner_product(h, &p, k, 0, k.min(s) + 1);
-        }
-        p[0] = two_products(h[0], p[0], g[i], 1, m);
+        step(&mut p, g[i], h, s, (r - i) * s, m);
     }
     p
 }

@@ -9,6 +9,23 @@ pub struct Refused {
     pub power: u32,
 }
 
+/// `desk_split`, of this library or of another one.
+pub type Split = unsafe extern "C" fn(
+    m: u32,
+    f: *const Polynomial,
+    r: usize,
+    g: *mut Polynomial,
+    h: *mut Polynomial,
+) -> Refused;
+
+/// `desk_left_part` of another library.
+pub type LeftPart = unsafe extern "C" fn(
+    m: u32,
+    f: *const Polynomial,
+    h: *const Polynomial,
+    g: *mut Polynomial,
+) -> Refused;
+
 extern "C" {
     pub fn desk_compose(
         m: u32,

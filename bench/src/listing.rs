@@ -1,11 +1,11 @@
-//! Records per second of the proved program `list` and of a plain Rust listing by the same method, both as programs that
-//! read a file and write to a pipe; then of `list` and `sheets`, which read and write a file.
+//! Records per second of the proved program `list` and of a plain Rust listing by the same method, then of `sheets` and `list`:
+//! all as programs that read a file and write another one.
 
 use crate::plain::{
     accepted, binomials, degree, invert, modulus, split_at, Below, Modulus, Polynomial, Words,
     TERMS,
 };
-use crate::timing::Random;
+use crate::timing::{head, Random};
 use std::fs::{self, File};
 use std::io::{Read, Write};
 use std::path::Path;
@@ -13,7 +13,7 @@ use std::process::{Command, Stdio};
 use std::time::Instant;
 
 const BYTES: usize = 512;
-const RUNS: usize = 5;
+const RUNS: usize = 6;
 
 /// The refusal number of a whole record, or 0.
 fn check(m: u32, f: &Polynomial) -> u32 {
@@ -183,9 +183,9 @@ fn planted_chains(random: &mut Random, m: u32, chains: &[&[usize]]) -> Vec<u8> {
         .collect()
 }
 
-/// The files that both programs list.
-fn files(random: &mut Random) -> Vec<(&'static str, Vec<u8>, usize)> {
-    let m = 2147483647;
+/// The files that are listed: what is in each, its bytes, and how many records that is.
+pub fn files() -> Vec<(&'static str, Vec<u8>, usize)> {
+    let (m, random) = (2147483647, &mut Random(4));
     let mut all = Vec::new();
     for (label, n) in [
         ("indecomposable, degree 126", 126),
@@ -239,75 +239,66 @@ fn files(random: &mut Random) -> Vec<(&'static str, Vec<u8>, usize)> {
     all
 }
 
-fn seconds(program: &mut Command, file: &Path) -> (f64, Vec<u8>) {
-    let mut best = (f64::MAX, Vec::new());
-    for _ in 0..RUNS {
+/// What a program writes for a file.
+fn written(program: &mut Command, file: &Path) -> Vec<u8> {
+    let program = program.stdin(File::open(file).unwrap());
+    let program = program.stdout(Stdio::piped()).stderr(Stdio::inherit());
+    program.output().unwrap().stdout
+}
+
+/// The least seconds of each program from the file to another one. The one that was second is the next to be first: else each
+/// may stay on a core of its own, and one of the cores may be the slower.
+fn by_turns(programs: &mut [Command; 2], file: &Path) -> [f64; 2] {
+    let mut best = [f64::MAX; 2];
+    for i in (0..RUNS).flat_map(|run| [run % 2, 1 - run % 2]) {
+        let output = File::create(file.with_extension("written")).unwrap();
+        let program = programs[i].stdin(File::open(file).unwrap()).stdout(output);
         let start = Instant::now();
-        let output = program
-            .stdin(File::open(file).unwrap())
-            .stderr(Stdio::inherit())
-            .output()
-            .unwrap();
-        best.0 = best.0.min(start.elapsed().as_secs_f64());
-        best.1 = output.stdout;
+        let status = program.status().unwrap();
+        assert!(status.success(), "{program:?}: {status}");
+        best[i] = best[i].min(start.elapsed().as_secs_f64());
     }
     best
 }
 
-/// The least seconds of each program from the file to another one, run by turns.
-fn by_turns(programs: [&str; 2], file: &Path) -> [f64; 2] {
-    let mut best = [f64::MAX; 2];
-    for _ in 0..RUNS {
-        for (program, best) in programs.iter().zip(&mut best) {
-            let output = File::create(file.with_extension("written")).unwrap();
-            let start = Instant::now();
-            let status = Command::new(program)
-                .stdin(File::open(file).unwrap())
-                .stdout(output)
-                .status()
-                .unwrap();
-            assert!(status.success(), "{program}: {status}");
-            *best = best.min(start.elapsed().as_secs_f64());
+/// Prints the records per second of two programs on each file and their ratio, the best of some passes over all files; where
+/// they must write the same, that is compared first. The ratios, with what is in the file.
+pub fn beside(
+    passes: usize,
+    heads: [&str; 2],
+    mut programs: [Command; 2],
+    same: bool,
+) -> Vec<(String, f64)> {
+    let folder = Path::new("target/bench-records");
+    fs::create_dir_all(folder).unwrap();
+    let (file, files) = (folder.join("records"), files());
+    let mut best = vec![[0.0f64; 2]; files.len()];
+    for _ in 0..passes {
+        for ((label, bytes, count), [a, b]) in files.iter().zip(&mut best) {
+            fs::write(&file, bytes).unwrap();
+            if same {
+                let [a, b] = programs.each_mut().map(|program| written(program, &file));
+                assert!(!a.is_empty() && a == b, "{label}: the listings differ");
+            }
+            let rates = by_turns(&mut programs, &file).map(|seconds| *count as f64 / seconds);
+            (*a, *b) = (a.max(rates[0]), b.max(rates[1]));
         }
     }
-    best
-}
-
-/// A record's sheet beside its line: both programs read the same file.
-fn sheets(files: &[(&str, Vec<u8>, usize)], file: &Path) {
     println!();
-    println!(
-        "{:<52}{:>12}{:>12}{:>8}",
-        "records per second", "sheets", "list", "ratio"
-    );
-    for (label, bytes, count) in files {
-        fs::write(file, bytes).unwrap();
-        let [sheets, list] = by_turns(["target/bin/sheets", "target/bin/list"], file);
-        let (a, b) = (*count as f64 / sheets, *count as f64 / list);
+    head("records per second", heads);
+    let row = |((label, _, _), [a, b]): (&(&str, _, _), [f64; 2])| {
         println!("{label:<52}{a:>12.0}{b:>12.0}{:>8.2}", a / b);
-    }
+        (label.to_string(), a / b)
+    };
+    files.iter().zip(best).map(row).collect()
 }
 
 pub fn run() {
-    println!();
-    println!(
-        "{:<52}{:>12}{:>12}{:>8}",
-        "records per second", "list", "plain Rust", "ratio"
-    );
     assert!(accepted(7, &monic(&mut Random(9), 7, 4, true)));
-    let folder = Path::new("target/bench-records");
-    fs::create_dir_all(folder).unwrap();
-    let (file, files) = (folder.join("records"), files(&mut Random(4)));
-    for (label, bytes, count) in &files {
-        fs::write(&file, bytes).unwrap();
-        let (ours, ours_text) = seconds(&mut Command::new("target/bin/list"), &file);
-        let (plain, plain_text) = seconds(
-            Command::new(std::env::current_exe().unwrap()).arg("--list"),
-            &file,
-        );
-        assert!(ours_text == plain_text, "{label}: the listings differ");
-        let (a, b) = (*count as f64 / ours, *count as f64 / plain);
-        println!("{label:<52}{a:>12.0}{b:>12.0}{:>8.2}", a / b);
-    }
-    sheets(&files, &file);
+    let list = || Command::new("target/bin/list");
+    let mut plain = Command::new(std::env::current_exe().unwrap());
+    plain.arg("--list");
+    beside(3, ["list", "plain Rust"], [list(), plain], true);
+    let sheets = Command::new("target/bin/sheets");
+    beside(1, ["sheets", "list"], [sheets, list()], false);
 }

@@ -1,5 +1,8 @@
-//! Times the desk's code beside the same method in plain Rust, in one run, on the same inputs.
-//! Every answer is compared first: a faster wrong answer does not count.
+//! Times the desk's code beside the same method in plain Rust, in one run, on the same inputs; or, by `--turns`, beside the
+//! desk's code before a change. Every answer is compared first: a faster wrong answer does not count.
+
+// The loops are the desk's own, by index.
+#![allow(clippy::needless_range_loop, clippy::manual_is_multiple_of)]
 
 mod change;
 mod compose;
@@ -9,15 +12,22 @@ mod plain;
 mod residue;
 mod split;
 mod timing;
+mod turns;
 
 fn main() {
-    if std::env::args().nth(1).as_deref() == Some("--list") {
-        return listing::plain();
+    let words: Vec<String> = std::env::args().skip(1).collect();
+    match words.iter().map(String::as_str).collect::<Vec<_>>()[..] {
+        [] => beside_plain(),
+        ["--list"] => listing::plain(),
+        ["--turns", library, list, old_library, old_list] => {
+            turns::run([library, old_library], [list, old_list])
+        }
+        _ => panic!("--turns LIBRARY LIST OLD-LIBRARY OLD-LIST, or nothing"),
     }
-    println!(
-        "{:<52}{:>12}{:>12}{:>8}",
-        "ns a call, the least of many short runs", "desk", "plain Rust", "ratio"
-    );
+}
+
+fn beside_plain() {
+    timing::head(timing::CALLS, ["desk", "plain Rust"]);
     residue::run();
     split::run();
     compose::run();

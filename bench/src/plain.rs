@@ -197,16 +197,99 @@ fn right_part<M: Modulus>(
     h
 }
 
-fn powers<M: Modulus>(h: &Polynomial, r: usize, s: usize, m: M) -> [u32; 64 * TERMS] {
-    let mut t = [0u32; 64 * TERMS];
-    t[0] = 1;
-    for i in 0..r {
-        let (from, to) = (i * TERMS, (i + 1) * TERMS);
-        for k in 0..=(i + 1) * s {
-            t[to + k] = m.inner_product(h, &t, from + k, 0, k.min(s) + 1);
-        }
+/// p becomes c + h·p, of a degree up to d: in place, from the top power down.
+pub fn step<M: Modulus>(p: &mut [u32], c: u32, h: &[u32], s: usize, d: usize, m: M) {
+    for k in (1..=d).rev() {
+        p[k] = m.inner_product(h, p, k, 0, k.min(s) + 1);
     }
-    t
+    p[0] = two_products(h[0], p[0], c, 1, m);
+}
+
+/// p divided by h, of degree s, in place: the remainder, and the quotient above it.
+fn divide<M: Modulus>(p: &mut [u32], h: &[u32], s: usize, m: M) {
+    let mut i = p.len();
+    while i != 0 {
+        let k = i + s;
+        i -= 1;
+        let lo = k - k.min(p.len());
+        let x = m.inner_product(h, p, i + s, lo, s.min(i + 1));
+        p[i] = m.subtract(p[i], x);
+    }
+}
+
+fn is_constant(p: &[u32]) -> bool {
+    p[1..].iter().all(|&c| c == 0)
+}
+
+fn digit<M: Modulus>(p: &mut [u32], h: &[u32], s: usize, m: M) -> bool {
+    divide(p, h, s, m);
+    is_constant(&p[..s])
+}
+
+fn digits<M: Modulus>(p: &mut [u32], h: &[u32], s: usize, m: M) -> bool {
+    let mut at = 0;
+    while s < p.len() - at {
+        if !digit(&mut p[at..], h, s, m) {
+            return false;
+        }
+        at += s;
+    }
+    is_constant(&p[at..])
+}
+
+/// The lowest k digits of p at once, by b = h^k.
+fn block<M: Modulus>(p: &mut [u32], h: &[u32], b: &[u32], k: usize, s: usize, m: M) -> bool {
+    let w = k * s;
+    divide(p, b, w, m);
+    digits(&mut p[..w], h, s, m)
+}
+
+fn blocks<M: Modulus>(p: &mut [u32], h: &[u32], b: &[u32], k: usize, s: usize, m: M) -> bool {
+    let w = k * s;
+    let mut at = 0;
+    while w < p.len() - at {
+        if !block(&mut p[at..], h, b, k, s, m) {
+            return false;
+        }
+        at += w;
+    }
+    digits(&mut p[at..], h, s, m)
+}
+
+/// h^k, from h itself, in place.
+fn raise<M: Modulus>(b: &mut [u32], h: &[u32], k: usize, s: usize, m: M) {
+    for i in 1..k {
+        step(b, 0, h, s, (i + 1) * s, m);
+    }
+}
+
+/// How many digits are taken at once where there are r.
+fn at_once(r: usize) -> usize {
+    match r {
+        0..6 => 1,
+        6..14 => 2,
+        14..32 => 3,
+        _ => 5,
+    }
+}
+
+/// All digits of p, of degree r * s, in powers of h; whether they are constants.
+fn expand<M: Modulus>(p: &mut [u32], h: &Polynomial, r: usize, s: usize, m: M) -> bool {
+    if !digit(p, h, s, m) {
+        return false;
+    }
+    let k = at_once(r);
+    let mut b = *h;
+    raise(&mut b, h, k, s, m);
+    blocks(&mut p[s..], h, &b, k, s, m)
+}
+
+fn constants(a: &[u32], r: usize, s: usize) -> Polynomial {
+    let mut g = [0; TERMS];
+    for i in 0..=r {
+        g[i] = a[i * s];
+    }
+    g
 }
 
 fn left_part<M: Modulus>(
@@ -217,18 +300,8 @@ fn left_part<M: Modulus>(
     s: usize,
     m: M,
 ) -> Option<Polynomial> {
-    let t = powers(h, r, s, m);
-    let mut g = [0u32; TERMS];
-    for j in (0..=r).rev() {
-        let given = strided_product(&g, &t, j + 1, r + 1, (j + 1) * TERMS + j * s, TERMS, m);
-        g[j] = m.subtract(f[j * s], given);
-    }
-    for k in 0..=n {
-        if f[k] != strided_product(&g, &t, 0, r + 1, k, TERMS, m) {
-            return None;
-        }
-    }
-    Some(g)
+    let mut a = *f;
+    expand(&mut a[..n + 1], h, r, s, m).then(|| constants(&a, r, s))
 }
 
 /// The pair at left degree r, right degree s; r must have an inverse.

@@ -52,7 +52,7 @@ fn power<M: Modulus>(a: u32, n: usize, m: M) -> u32 {
 
 #[inline(never)]
 fn invert(a: u64, m: u64) -> u64 {
-    if m < 2 || MOST < m {
+    if !(2..=MOST).contains(&m) {
         return 0;
     }
     plain_invert(a, m).unwrap_or(0) as u64

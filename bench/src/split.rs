@@ -1,7 +1,35 @@
-use crate::desk::{desk_compose, desk_split};
+use crate::desk::{desk_compose, desk_split, Split};
 use crate::plain::{binomials, degree, modulus, split, Polynomial, TERMS};
 use crate::timing::{at, beside, Random};
 use std::hint::black_box;
+
+/// One row: f is split at the left degree r.
+pub struct Input {
+    pub m: u32,
+    pub f: Polynomial,
+    pub r: usize,
+    /// The right part that f was composed with, if it was.
+    pub right: Option<Polynomial>,
+}
+
+impl Input {
+    pub fn label(&self, operation: &str) -> String {
+        let (n, r, end) = (degree(&self.f), self.r, at(self.m));
+        let pair = if self.right.is_some() { "a" } else { "no" };
+        format!("{operation}, degree {n} at r = {r}, {pair} pair{end}")
+    }
+
+    /// A sum over what `split` answers: the desk's or another library's.
+    pub fn split(&self, split: Split) -> u64 {
+        let (mut g, mut h) = ([0; TERMS], [0; TERMS]);
+        let refused = unsafe { split(self.m, black_box(&self.f), self.r, &mut g, &mut h) };
+        assert!(refused.polynomial == 0 && refused.power == 0);
+        match refused.number {
+            0 => sum(&g, &h),
+            _ => 0,
+        }
+    }
+}
 
 pub fn monic(random: &mut Random, m: u32, n: usize) -> Polynomial {
     let mut f = [0; TERMS];
@@ -13,12 +41,14 @@ pub fn monic(random: &mut Random, m: u32, n: usize) -> Polynomial {
 }
 
 /// A polynomial that splits at r: the desk composes it.
-fn planted(random: &mut Random, m: u32, r: usize, s: usize) -> Polynomial {
+fn planted(random: &mut Random, m: u32, r: usize, s: usize) -> Input {
     let (g, h) = (monic(random, m, r), monic(random, m, s));
     let mut f = [0; TERMS];
     let refused = unsafe { desk_compose(m, &g, &h, &mut f) };
     assert_eq!(refused.number, 0);
-    f
+    assert_eq!(degree(&f), r * s);
+    let right = Some(h);
+    Input { m, f, r, right }
 }
 
 fn sum(g: &Polynomial, h: &Polynomial) -> u64 {
@@ -28,52 +58,42 @@ fn sum(g: &Polynomial, h: &Polynomial) -> u64 {
     })
 }
 
-/// Both times of one split of f at r, the answers compared first.
-fn one(label: &str, m: u32, f: &Polynomial, r: usize, table: &[u64]) {
-    beside(
-        label,
-        20,
-        &mut |_| {
-            let (mut g, mut h) = ([0; TERMS], [0; TERMS]);
-            let refused = unsafe { desk_split(m, black_box(f), r, &mut g, &mut h) };
-            assert!(refused.polynomial == 0 && refused.power == 0);
-            if refused.number == 0 {
-                sum(&g, &h)
-            } else {
-                0
-            }
-        },
-        &mut |_| match split(m, black_box(f), r, black_box(table)) {
-            Some((g, h)) => sum(&g, &h),
-            None => 0,
-        },
-    );
+/// Polynomials of degree n for each of the left degrees: one that has no pair, and for each one that has.
+fn of_degree(random: &mut Random, m: u32, n: usize, left: &[usize]) -> Vec<Input> {
+    let f = monic(random, m, n);
+    let right = None;
+    let whole = left.iter().map(|&r| Input { m, f, r, right });
+    let composed = left.iter().map(|&r| planted(random, m, r, n / r));
+    whole.chain(composed).collect()
 }
 
-/// Splits of degree n at each of the left degrees.
-fn rows(random: &mut Random, m: u32, n: usize, left: &[usize], table: &[u64]) {
-    let whole = monic(random, m, n);
-    for &r in left {
-        let label = format!("split, degree {n} at r = {r}, no pair{}", at(m));
-        one(&label, m, &whole, r, table);
-    }
-    for &r in left {
-        let f = planted(random, m, r, n / r);
-        assert_eq!(degree(&f), n);
-        let label = format!("split, degree {n} at r = {r}, a pair{}", at(m));
-        one(&label, m, &f, r, table);
-    }
-}
-
-pub fn run() {
-    let (mut random, table) = (Random(2), binomials());
+/// All rows.
+pub fn inputs() -> Vec<Input> {
+    let mut random = Random(2);
+    let mut all = Vec::new();
     let fitting = |n: usize| (2..=n / 2).filter(move |r| n % r == 0);
     for n in [60, 120, 126] {
         let left: Vec<usize> = fitting(n).collect();
-        rows(&mut random, 2147483647, n, &left, &table);
+        all.extend(of_degree(&mut random, 2147483647, n, &left));
     }
     for n in [60, 105, 120, 125, 126] {
         let odd: Vec<usize> = fitting(n).filter(|r| r % 2 == 1).collect();
-        rows(&mut random, 0, n, &odd, &table);
+        all.extend(of_degree(&mut random, 0, n, &odd));
+    }
+    all
+}
+
+pub fn run() {
+    let table = binomials();
+    for input in inputs() {
+        beside(
+            &input.label("split"),
+            20,
+            &mut |_| input.split(desk_split),
+            &mut |_| match split(input.m, black_box(&input.f), input.r, black_box(&table)) {
+                Some((g, h)) => sum(&g, &h),
+                None => 0,
+            },
+        );
     }
 }

@@ -3,6 +3,14 @@ use std::time::Instant;
 
 const RUNS: usize = 600;
 
+/// What is in the tables of single calls.
+pub const CALLS: &str = "ns a call, the least of many short runs";
+
+/// The line above a table: what is in it, and whose times stand side by side.
+pub fn head(title: &str, sides: [&str; 2]) {
+    println!("{title:<52}{:>12}{:>12}{:>8}", sides[0], sides[1], "ratio");
+}
+
 /// Nanoseconds a call in one short run.
 fn run(calls: usize, f: &mut dyn FnMut(usize) -> u64) -> f64 {
     let start = Instant::now();
@@ -14,23 +22,35 @@ fn run(calls: usize, f: &mut dyn FnMut(usize) -> u64) -> f64 {
     start.elapsed().as_nanos() as f64 / calls as f64
 }
 
-/// Compares the answers of both on all inputs, then prints the times of both and their ratio.
+/// Compares the answers of both on all inputs, then takes the times of both.
 ///
 /// The least of many short runs, the two by turns, so that other work on the machine counts little and for both alike.
+pub fn by_turns(
+    label: &str,
+    runs: usize,
+    calls: usize,
+    first: &mut dyn FnMut(usize) -> u64,
+    second: &mut dyn FnMut(usize) -> u64,
+) -> [f64; 2] {
+    for i in 0..calls {
+        assert_eq!(first(i), second(i), "{label}: input {i}");
+    }
+    let (mut a, mut b) = (f64::MAX, f64::MAX);
+    for _ in 0..runs {
+        a = a.min(run(calls, first));
+        b = b.min(run(calls, second));
+    }
+    [a, b]
+}
+
+/// Prints both times and their ratio.
 pub fn beside(
     label: &str,
     calls: usize,
     desk: &mut dyn FnMut(usize) -> u64,
     plain: &mut dyn FnMut(usize) -> u64,
 ) {
-    for i in 0..calls {
-        assert_eq!(desk(i), plain(i), "{label}: input {i}");
-    }
-    let (mut a, mut b) = (f64::MAX, f64::MAX);
-    for _ in 0..RUNS {
-        a = a.min(run(calls, desk));
-        b = b.min(run(calls, plain));
-    }
+    let [a, b] = by_turns(label, RUNS, calls, desk, plain);
     println!("{label:<52}{a:>12.1}{b:>12.1}{:>8.2}", a / b);
 }
 

@@ -7,9 +7,10 @@
 //! input, and stops at the first difference. Where it can, it goes another way
 //! than the desk: the left part by the powers of h and the triangular system of
 //! 000, the right part as a root of the reversed polynomial, changes by
-//! binomials, and for tiny sizes all of it by going through all g and h. Left
-//! part and split are asked at all degrees of a pair, of g(h) and of f that is
-//! another at any one place. Then it holds the desk against itself, as the
+//! binomials, and for tiny sizes all of it by going through all g and h. In a
+//! usual run left part and split are asked at all degrees of a pair, of g(h) and
+//! of f that is another at any one place; with fewer inputs, at some of them.
+//! Then it holds the desk against itself, as the
 //! demands 2 and 3 say, and request No. 2 of its sheets. About one input in seven
 //! is at modulus 2^32 (request No. 3), and what was met there is counted apart.
 //!

@@ -43,7 +43,7 @@ pub fn moduli(_r: usize) -> Vec<Modulus> {
 }
 
 /// Those modulo which r has an inverse.
-pub fn moduli_without(r: usize) -> Vec<Modulus> {
+pub fn moduli_inverting(r: usize) -> Vec<Modulus> {
     let shares = |m: &Modulus| shares_factor(r as u64, *m);
     MODULI.into_iter().filter(|m| !shares(m)).collect()
 }
@@ -114,12 +114,12 @@ impl Walk {
     pub fn input(&self, index: u64, random: &mut Random) -> Near {
         let (stretch, number) = self.stretches.at(index);
         let moduli = (self.moduli)(stretch.r);
-        let place = number as usize;
+        let number = number as usize;
         let m = match stretch.other {
-            Other::Nothing => moduli[place],
+            Other::Nothing => moduli[number],
             Other::Coefficient | Other::OfDigit => random.pick(&moduli),
         };
-        stretch.near(place, m, random)
+        stretch.near(number, m, random)
     }
 }
 

@@ -12,7 +12,7 @@
 --   splits-changed, splits-unchanged      a change keeps whether f splits
 use mathlib.Core.Path.{_≡_, refl, sym, ap, _∙_}
 use mathlib.Core.List.{List, [], _∷_}
-use Prim.Native.Nat.{ℕ, zero, suc, _+_, _*_, _^_, _-_, _%_, _<_}
+use Prim.Native.Nat.{ℕ, _+_, _*_, _^_, _-_, _%_, _<_}
 use native.Mathlib.Nat as N
 use native.Mathlib.Omega.{arith}
 use Rattle.algebra.specs.Polynomial.{coef, plus, scaled, after, value, Same, Monic, Reduced, terms, reduced}
@@ -20,7 +20,7 @@ use Rattle.algebra.specs.Number.{Invertible}
 use Rattle.algebra.specs.Pair.{Pair, Normal, SplitsRight}
 use Rattle.algebra.specs.Change.{Changed, ChangedRight, ChangedPair, Undoes, combined-unit, combined-origin}
 use Rattle.algebra.proofs.Numbers.{number-cancel, pow-same, mul-same, one-pow, mul-pow, pow-pow, add-cancel}
-use Rattle.algebra.proofs.Polynomials.{same-refl, same-sym, _⨾_, plus-same, plus-assoc, plus-nothing, scaled-same, after-same, after-assoc, after-plus, after-scaled, scaled-plus, scaled-scaled, line-after, constant-after, constant-same, after-x, scaled-number, scaled-one, scaled-cancel, plus-cancel, line-same, monic-same}
+use Rattle.algebra.proofs.Polynomials.{same-refl, same-sym, _⨾_, plus-same, plus-assoc, plus-nothing, scaled-same, after-same, after-assoc, after-plus, after-scaled, scaled-plus, scaled-scaled, line-after, constant-after, constant-same, after-x, scaled-number, scaled-one, scaled-cancel, plus-cancel, line-same, monic-same, zero-nothing}
 use Rattle.algebra.proofs.Coefficients.{coef-scaled}
 use Rattle.algebra.proofs.Reduction.{reduced-reduced, monic-reduced, reduced-equal}
 use Rattle.algebra.proofs.Factors.{invertible-pow, invertible-one}
@@ -226,15 +226,11 @@ module _ {m : ℕ} (pos : 0 < m) where
   pub changed-pair-by-nothing : {r s : ℕ} (g : List ℕ) {h : List ℕ} → Normal m h → ChangedPair m r s 1 0 g h g h
   changed-pair-by-nothing {s = s} g {h} z = record {
     left = changed-numbers 1 0 (1 ^ s) (value h 0) (ap (λ (x : ℕ). x % m) (sym (one-pow s))) (sym constant) (changed-by-nothing g);
-    right = record { same = plus-same m pos (constant-same m pos _ 0 constant ⨾ record { at = zeros }) (scaled-number m pos _ 1 h (ap (λ (x : ℕ). x % m) (one-pow s)) ⨾ scaled-one m pos h) ⨾ plus-nothing m pos h ⨾ same-sym (after-x m pos h) };
+    right = record { same = plus-same m pos (constant-same m pos _ 0 constant ⨾ zero-nothing m pos) (scaled-number m pos _ 1 h (ap (λ (x : ℕ). x % m) (one-pow s)) ⨾ scaled-one m pos h) ⨾ plus-nothing m pos h ⨾ same-sym (after-x m pos h) };
   }
     where
       constant : value h 0 % m ≡ 0 % m
       constant = ap (λ (x : ℕ). x % m) (value-zero h) ∙ z .constant
-
-      zeros : (i : ℕ) → coef (0 ∷ []) i % m ≡ coef [] i % m
-      zeros zero = refl
-      zeros (suc i) = refl
 
   -- where f splits, the changed f does
   pub splits-changed : {n s a b : ℕ} {f f′ : List ℕ} → Invertible m a → Changed m n a b f f′ → SplitsRight m n f s → SplitsRight m n f′ s

@@ -2,7 +2,7 @@
 --
 --   coef-plus, coef-scaled                of a sum, of a multiple
 --   coef-times                            of a product: the sum of coef p i · coef q (k - i)
---   after-end                             g(h) ends where g does, with the same coefficient
+--   after-end                             where g ends at x^r, g(h) ends at x^(rs), with the same coefficient
 --   after-monic, power-monic              g(h) is monic of degree r·s, and h^i of degree i·s
 use mathlib.Core.Path.{_≡_, refl, sym, ap, ap₂, _∙_}
 use mathlib.Core.List.{List, [], _∷_, tail}
@@ -58,7 +58,6 @@ coef-times p q (suc k) = coef-times-suc p q k
     (coef-times (tail p) q k ∙ sum-ext (suc k) _ _ (λ i l. ap₂ (λ (x j : ℕ). x * coef q j) (coef-tail p i) (sym (N.suc-sub-suc k i))))
     ∙ sym (sum-first (suc k) (λ i. coef p i * coef q (suc k - i)))
 
--- h monic of degree s: where g ends, g(h) does
 module _ (m : ℕ) (pos : 0 < m) where
   pub after-end : {r s : ℕ} (g : List ℕ) {h : List ℕ} → 0 < s → P.Monic m s h → ((i : ℕ) → r < i → coef g i % m ≡ 0 % m)
       → (coef (after g h) (r * s) % m ≡ coef g r % m) × ((i : ℕ) → r * s < i → coef (after g h) i % m ≡ 0 % m)

@@ -1,8 +1,8 @@
 -- Division by a monic polynomial modulo m: one quotient, one remainder, and what that says of left parts.
 --
 --   division-unique     c + h·u = d + h·v with c and d of degree below that of h: u = v and c = d
---   after-parts         g(h) is its first k terms, after h, and h^k times the others, after h
---   parts-after         dividing g(h) by h^k leaves the first, and the quotient is the others: repeated division rests on it
+--   parts-after         p = c + h^k·q, c of a degree below that of h^k: p = g(h) exactly if c is g's first k terms, after h, and q
+--                       the others; repeated division rests on it, whatever h(0) is, and no inverse is needed
 --   left-part-unique    for a given monic h, whatever h(0), at most one g has f = g(h); no inverse is needed
 use mathlib.Core.Path.{_≡_, refl, sym, ap, _∙_, fun-ext}
 use mathlib.Core.Logic.{_↔_}
@@ -31,7 +31,8 @@ module _ (m : ℕ) (pos : 0 < m) where
   regroup : (c t u v h : List ℕ) → Same m (plus c (times h (plus t (times u v)))) (plus (plus c (times h t)) (times (times h u) v))
   regroup c t u v h = equal→same m pos (simp (eval-plus (Q m pos), eval-times (Q m pos)) (shared-factor (Q m pos) _ _ _ _ _))
 
-  pub after-parts : (k : ℕ) (g h : List ℕ) → Same m (after g h) (plus (after (take k g) h) (times (power h k) (after (drop k g) h)))
+  -- g(h) is its first k terms, after h, and h^k times the others, after h
+  after-parts : (k : ℕ) (g h : List ℕ) → Same m (after g h) (plus (after (take k g) h) (times (power h k) (after (drop k g) h)))
   unfolding after power
   after-parts zero g h = same-sym (plus-nothing m pos _ ⨾ times-one m pos (after g h))
   after-parts (suc k) [] h = same-sym (plus-nothing m pos _ ⨾ times-comm m pos _ [] ⨾ times-nothing m pos _)
@@ -52,7 +53,7 @@ module _ (m : ℕ) (pos : 0 < m) where
       spread : (c u : List ℕ) → ⟦ Z m pos ⟧ (plus c (times h u)) ≡ S._⊞_ (Z m pos) (⟦ Z m pos ⟧ c) (S._⊠_ (Z m pos) (⟦ Z m pos ⟧ h) (⟦ Z m pos ⟧ u))
       spread c u = eval-plus (Q m pos) c (times h u) _ ∙ ap (S._⊞_ (Z m pos) (⟦ Z m pos ⟧ c)) (eval-times (Q m pos) h u _)
 
-  -- k terms after h end below h^k
+  -- k terms, after h, end below h^k
   low : {s : ℕ} {h : List ℕ} → 0 < s → Monic m s h → (k : ℕ) (g : List ℕ) (i : ℕ) → k * s ≤ i → coef (after (take k g) h) i % m ≡ 0 % m
   unfolding after
   low sp mh zero g i l = refl

@@ -5,7 +5,7 @@
 --   leading                               of the leading terms only x^(n-1), .., x^(n-s+1) need a look
 --   forced-refutes                        a place where the forced pair differs from f shows that there is no pair at all
 --   left-refutes                          and for a given h that there is no left part
-use mathlib.Core.Path.{_≡_, sym, ap, subst, _∙_}
+use mathlib.Core.Path.{_≡_, refl, sym, ap, subst, _∙_}
 use mathlib.Core.List.{List}
 use Prim.Native.Nat.{ℕ, suc, _+_, _*_, _-_, _%_, _≤_, _<_}
 use native.Mathlib.Nat as N
@@ -20,12 +20,10 @@ use Rattle.algebra.proofs.Series as S
 use Rattle.algebra.proofs.Evaluation.{⟦_⟧, eval-plus, eval-scaled, eval-after}
 use Rattle.algebra.proofs.Residues.{residues, Res, red, equal→same}
 use Rattle.algebra.proofs.Degrees.{Deg, deg-down, deg-zero}
-use Rattle.algebra.proofs.Lines.{lead-compose, pow-one}
-use Rattle.algebra.proofs.Polynomials.{Q, same-refl, monic-series, residue-at, at-residue, past, after-compose, _⨾_, after-same}
-use Rattle.algebra.proofs.Coefficients.{coef-plus, coef-scaled, after-monic}
+use Rattle.algebra.proofs.Polynomials.{Q, same-refl, residue-at, at-residue, past, _⨾_, after-same}
+use Rattle.algebra.proofs.Coefficients.{coef-plus, coef-scaled, after-end, after-monic}
 use Rattle.algebra.proofs.Leading.{right-part-leading}
 use Rattle.algebra.proofs.Pairs.{no-normal-pair}
-use Rattle.algebra.proofs.Residues
 
 module _ (m : ℕ) (pos : 0 < m) where
   abbrev Z : A.Ring
@@ -58,8 +56,8 @@ module _ (m : ℕ) (pos : 0 < m) where
 
   -- the top of w(h), where h is monic, is that of w
   after-top : {j s : ℕ} (w : List ℕ) {h : List ℕ} → 0 < s → Monic m s h → Deg Z j (⟦ Z ⟧ w) → ⟦ Z ⟧ (after w h) (j * s) ≡ ⟦ Z ⟧ w j
-  after-top {j} {s} w {h} sp mh d = ap (λ (p : ℕ → Res m pos). p (j * s)) (after-compose m pos (suc j) w h (λ i l. d .above i l))
-      ∙ lead-compose Z (monic-series m pos mh) sp j (⟦ Z ⟧ w) .top ∙ ap (Residues.rmul m pos (⟦ Z ⟧ w j)) (pow-one Z j) ∙ A.mul-one Z _
+  after-top {j} {s} w {h} sp mh d = residue-at m pos (after w h) (j * s) (coef w j) (after-end m pos w sp mh (λ i l. at-residue m pos w i 0 (d .above i l)) .0)
+      ∙ sym (residue-at m pos w j (coef w j) refl)
 
   -- left parts that agree at the powers x^(j s) are the same
   pub left-forced : {s : ℕ} {g g′ h : List ℕ} → 0 < s → Monic m s h → ((j : ℕ) → coef (after g h) (j * s) % m ≡ coef (after g′ h) (j * s) % m) → Same m g g′

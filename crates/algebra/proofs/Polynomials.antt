@@ -2,7 +2,7 @@
 --
 --   same-refl, same-sym, _⨾_              Same is an equivalence
 --   plus-same, scaled-same, times-same, power-same, after-same    and fits every operation
---   plus-comm, plus-assoc, plus-nothing, plus-cancel              sums
+--   zero-nothing, plus-comm, plus-assoc, plus-nothing, plus-cancel     sums
 --   times-comm, times-assoc, times-plus, times-nothing, times-one products
 --   power-plus                            p^(i+j) = p^i·p^j
 --   scaled-one, scaled-plus, scaled-scaled, scaled-number, scaled-cancel     multiples
@@ -153,6 +153,13 @@ module _ (m : ℕ) (pos : 0 < m) where
 
   pub power-plus : (p : List ℕ) (i j : ℕ) → Same m (power p (i + j)) (times (power p i) (power p j))
   power-plus p i j = equal→same m pos (simp (eval-times Q, eval-power Q) (E.pow-add Q _ i j))
+
+  pub zero-nothing : Same m (0 ∷ []) []
+  zero-nothing = record { at = go }
+    where
+      go : (i : ℕ) → coef (0 ∷ []) i % m ≡ coef [] i % m
+      go zero = refl
+      go (suc i) = refl
 
   pub plus-nothing : (p : List ℕ) → Same m (plus [] p) p
   plus-nothing p = equal→same m pos (simp (eval-plus Q, eval-nil Q) (A.zero-add Q _))

@@ -32,7 +32,7 @@ use Rattle.polynomial.proofs.Filling.{zeros}
 use Rattle.composition.specs.Composition.{composition, Ends, Composable, Room}
 
 -- above x^s the coefficients of h are 0, so that the sum ends there
-product-place : {s : ℕ} {h : List ℕ} → Ends s h → (p : List ℕ) (k : ℕ) → inner h p k 0 (min k s + 1) ≡ coef (times h p) k
+pub product-place : {s : ℕ} {h : List ℕ} → Ends s h → (p : List ℕ) (k : ℕ) → inner h p k 0 (min k s + 1) ≡ coef (times h p) k
 unfolding inner
 product-place {s} {h} e p k =
     sum-ext (min k s + 1) _ _ (λ i l. rw (N.zero-add i))

@@ -21,7 +21,7 @@ fn line_step(p: &mut [u32], c: u32, h: &[u32], d: usize, m: u64)
     p[0] = residue::two_products(h[0], p[0], c, 1, m);
 }
 
-// One step: p becomes c + h·p, of a degree up to d.
+// One step: p becomes c + h·p, of a degree up to d. With c = 0 it is one power of h more, for the left part.
 pub fn step(p: &mut [u32], c: u32, h: &[u32], s: usize, d: usize, m: u64)
     requires { ⌜ Modulus m × Room s d (now h) (now p) ⌝ }
     ensures { λ _. ⌜ now (p .exit) ≡ reduced m (plus (c ∷ []) (times (now (h .entry)) (now (p .entry)))) ⌝ }

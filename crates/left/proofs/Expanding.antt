@@ -1,37 +1,35 @@
 -- Digits in powers of h, from the lowest on.
 --
---   flat-digits                    what is shorter than h is one digit
---   lowest-digits, lowest-digit    a division by h^k and the digits of the remainder, k; by h, one
+--   flat-digits                                  what is shorter than h is one digit
+--   lowest-digits, lowest-digit                  a division by h^k and the k digits of its remainder; by h, and one digit
+--   lowest-no                                    a digit that is no constant
 --   Reached m h s p₀ at p                        the digits of p₀ below place `at` are found, and above it p has the quotient
 --   reached-none, reached-first, reached-more    before the first digit, after it, and k digits further
---   lowest-no, reached-no, reached-last                     and then one that is no constant, or all digits of the quotient
+--   reached-no, reached-last                     and then one that is no constant, or all digits of the quotient
 --   digits-long                                  where there is a quotient beside the first digit
---   lent, returned                               the places from `at` on, as they are lent and come back
---   reached-divisible, remainder-divisible, raised-divisible     what may be divided again
+--   remainder-asked, raised-asked, reached-asked     a remainder, by h^k, a quotient: what may be divided again
 use mathlib.Core.Path.{_≡_, refl, sym, ap, _∙_, subst}
 use mathlib.Core.Logic.{_↔_, Iff·trans}
 use mathlib.Core.Bool.{Bool, true, false, true≢false, false≢true}
-use mathlib.Core.List.{List, [], _∷_, _++_, append-nil}
+use mathlib.Core.List.{List, [], _∷_, _++_}
 use Prim.Native.Nat.{ℕ, zero, suc, _+_, _*_, _-_, _%_, _≤_, _<_}
 use native.Mathlib.Nat as N
 use native.Mathlib.Omega.{arith}
 use native.Mathlib.Decide.{decLt}
-use lib.ListN.{length, take, drop, length-take, length-drop, length-append, take-append-drop, drop-of-length-le, List·getD-eq-default}
-use lib.Seq.{getD-take, getD-drop, length-take-le, take-all, take-at, drop-at, drop-drop}
+use lib.ListN.{length, take, drop, length-take, length-drop, length-append, take-append-drop, List·getD-eq-default}
+use lib.Seq.{getD-take, getD-drop, length-take-le, drop-at, drop-drop}
 use Rattle.algebra.specs.Polynomial.{coef, after, Same, Held}
-use Rattle.algebra.proofs.Polynomials.{_⨾_, same-refl, same-sym, plus-same, plus-comm, plus-nothing, times-comm, times-nothing, after-same, constant-after}
+use Rattle.algebra.proofs.Polynomials.{_⨾_, same-refl, same-sym, zero-nothing, plus-same, plus-comm, plus-nothing, times-comm, times-nothing, after-same, constant-after}
 use Rattle.algebra.proofs.Division.{parts-after, left-part-unique}
-use Rattle.left.specs.Division.{Divisible, Divided, Raised, First, Lowest, Digits}
+use Rattle.left.specs.Division.{DivisionAsked, Divided, Raised, ConstantIs, Begins, Lowest, Digits}
+use Rattle.polynomial.proofs.Below.{take-below, join-below}
+use Rattle.left.proofs.Pieces.{front, back}
 use Rattle.left.proofs.Raising.{raised-one}
 
 -- the first term of g, after anything
 first-term : {m : ℕ} → 0 < m → (g h : List ℕ) → Same m (after (take 1 g) h) (coef g 0 ∷ [])
 unfolding after
-first-term {m} pos [] h = record { at = nothing }
-  where
-    nothing : (i : ℕ) → coef [] i % m ≡ coef (0 ∷ []) i % m
-    nothing zero = refl
-    nothing (suc i) = refl
+first-term {m} pos [] h = same-sym (zero-nothing m pos)
 first-term {m} pos (x ∷ g) h = constant-after m pos x h
 
 -- and its others
@@ -53,9 +51,9 @@ module _ {m s : ℕ} {h : List ℕ} (pos : 0 < m) (above : 0 < s) (right : Held 
           (same-sym (plus-same m pos (same-refl p) (times-comm m pos h [] ⨾ times-nothing m pos h) ⨾ plus-comm m pos p [] ⨾ plus-nothing m pos p)) g
 
 -- what is shorter than h is one digit
-pub flat-digits : {m s : ℕ} {h p : List ℕ} {t : Bool} → Divisible m s h p → length p ≤ s
-    → (t ≡ true → (i : ℕ) → 0 < i → coef p i ≡ 0) → (t ≡ false → (i : ℕ) × (0 < i) × ¬ (coef p i ≡ 0)) → Digits m h s p p t
-flat-digits {m} {s} {h} {p} {t} d l flat bent = record { long = refl; below = d .below; yes = λ e g. (digit e g, whole e g); no = λ e g w. none (bent e) g w }
+pub flat-digits : {m s : ℕ} {h p : List ℕ} {t : Bool} → DivisionAsked m s h p → length p ≤ s
+    → ConstantIs p t → Digits m h s p p t
+flat-digits {m} {s} {h} {p} {t} d l flat = record { long = refl; below = d .below; yes = λ e g. (digit e g, whole e g); no = λ e g w. none (flat .no e) g w }
   where
     pos : 0 < m
     pos = omega (arith, d .modulus .above-one)
@@ -78,57 +76,36 @@ flat-digits {m} {s} {h} {p} {t} d l flat bent = record { long = refl; below = d 
       where
         constant : (i : ℕ) → coef p i % m ≡ coef (coef g 0 ∷ []) i % m
         constant zero = ap (λ (x : ℕ). x % m) (sym first) ∙ sym (w 0)
-        constant (suc i) = ap (λ (x : ℕ). x % m) (flat e (suc i) (omega arith))
+        constant (suc i) = ap (λ (x : ℕ). x % m) (flat .yes e (suc i) (omega arith))
 
     none : (i : ℕ) × (0 < i) × ¬ (coef p i ≡ 0) → (g : List ℕ) → Same m p (after g h) → ⊥
     none (zero, b, n) g w = N.not-suc-le-zero b
     none (suc i, b, n) g w = n (sym (N.mod-eq-of-lt (d .below (suc i))) ∙ apart g .0 w .0 .at (suc i) ∙ N.zero-mod m)
 
--- two lists one after the other
-module _ (xs ys : List ℕ) {n : ℕ} (e : length xs ≡ n) where
-  pub front : (i : ℕ) → i < n → coef (xs ++ ys) i ≡ coef xs i
-  front i l = sym (getD-take n (xs ++ ys) i 0 l) ∙ ap (λ (p : List ℕ). coef p i) (take-at xs ys n e)
-
-  back : (i : ℕ) → coef (xs ++ ys) (n + i) ≡ coef ys i
-  back i = sym (getD-drop n (xs ++ ys) i 0) ∙ ap (λ (p : List ℕ). coef p i) (drop-at xs ys n e)
-
-  both-below : {m : ℕ} → ((i : ℕ) → coef xs i < m) → ((i : ℕ) → coef ys i < m) → (i : ℕ) → coef (xs ++ ys) i < m
-  both-below {m} a b i = go (decLt i n)
-    where
-      go : Dec (i < n) → coef (xs ++ ys) i < m
-      go (yes l) = rw (front i l) (a i)
-      go (no l) = let f : n + (i - n) ≡ i = omega arith in rw (← f, back (i - n)) (b (i - n))
-
 -- a remainder may be divided again
-pub remainder-divisible : {m s w : ℕ} {h b p q : List ℕ} → Divisible m s h p → Divided m b w p q → 0 < w → w ≤ length p → Divisible m s h (take w q)
-remainder-divisible {m} {s} {w} {h} {b} {p} {q} d c above l =
+pub remainder-asked : {m s w : ℕ} {h b p q : List ℕ} → DivisionAsked m s h p → Divided m b w p q → 0 < w → w ≤ length p → DivisionAsked m s h (take w q)
+remainder-asked {m} {s} {w} {h} {b} {p} {q} d c above l =
+    let wide : length (take w q) ≡ w = length-take-le w q (rw (c .long) l) in
     record {
       modulus = d .modulus;
       right = d .right;
       above-zero = d .above-zero;
-      below = λ i. small i (decLt i w);
+      below = take-below (omega (arith, d .modulus .above-one)) w q (λ i _. c .below i);
       some = rw wide above;
       inside = omega (arith, wide, d .inside);
     }
-  where
-    wide : length (take w q) ≡ w
-    wide = length-take-le w q (rw (c .long) l)
-
-    small : (i : ℕ) → Dec (i < w) → coef (take w q) i < m
-    small i (yes e) = rw (getD-take w q i 0 e) (c .below i)
-    small i (no e) = rw (List·getD-eq-default (take w q) 0 {n = i} (omega (arith, wide))) (omega (arith, c .below 0))
 
 -- and what h divides, h^k does
-pub raised-divisible : {m s k : ℕ} {h b p : List ℕ} → Divisible m s h p → Raised m h s k b → 0 < k → Divisible m (k * s) b p
-raised-divisible {s = s} {k = k} d r l = record { modulus = d .modulus; right = r .held; above-zero = omega (arith, d .above-zero, N.mul-le-mul-right {m = 1} {n = k} s l); below = d .below; some = d .some; inside = d .inside }
+pub raised-asked : {m s k : ℕ} {h b p : List ℕ} → DivisionAsked m s h p → Raised m h s k b → 0 < k → DivisionAsked m (k * s) b p
+raised-asked {s = s} {k = k} d r l = record { modulus = d .modulus; right = r .held; above-zero = omega (arith, d .above-zero, N.mul-le-mul-right {m = 1} {n = k} s l); below = d .below; some = d .some; inside = d .inside }
 
 -- k digits: the remainder by h^k has them
-pub lowest-digits : {m s w : ℕ} (k : ℕ) {h b p q r : List ℕ} {t : Bool} → Divisible m s h p → Raised m h s k b → w ≡ k * s → w ≤ length p
+pub lowest-digits : {m s w : ℕ} (k : ℕ) {h b p q r : List ℕ} {t : Bool} → DivisionAsked m s h p → Raised m h s k b → w ≡ k * s → w ≤ length p
     → Divided m b w p q → Digits m h s (take w q) r t → Lowest m h s k p (r ++ drop w q) t
 lowest-digits {m} {s} {w} k {h} {b} {p} {q} {r} {t} d raised ew l divided digits =
     record {
       long = length-append r (drop w q) ∙ rw (wide, length-drop w q, divided .long) (omega arith);
-      below = both-below r (drop w q) wide (digits .below) (λ i. rw (getD-drop w q i 0) (divided .below (w + i)));
+      below = join-below r (drop w q) (digits .below) (λ i. rw (getD-drop w q i 0) (divided .below (w + i)));
       yes = λ e g. Iff·trans (apart g) (λ (x, y). (λ i b. begins e g x i b, rw (← ew, drop-at r (drop w q) w wide) y), λ (x, y). (digits .yes e (take k g) .1 (all g x), rw (← ew, drop-at r (drop w q) w wide) at y));
       no = λ e g x. digits .no e (take k g) (apart g .0 x .0);
     }
@@ -146,10 +123,10 @@ lowest-digits {m} {s} {w} k {h} {b} {p} {q} {r} {t} d raised ew l divided digits
     inside : (i : ℕ) → i < k → i * s < w
     inside i c = rw ew (N.mul-lt-mul-of-pos-right c (d .above-zero))
 
-    begins : t ≡ true → (g : List ℕ) → Same m (take w q) (after (take k g) h) → First m s k (r ++ drop w q) g
+    begins : t ≡ true → (g : List ℕ) → Same m (take w q) (after (take k g) h) → Begins m s k (r ++ drop w q) g
     begins e g x i c = ap (λ (y : ℕ). y % m) (sym (getD-take k g i 0 c)) ∙ digits .yes e (take k g) .0 x i ∙ ap (λ (y : ℕ). y % m) (sym (front r (drop w q) wide (i * s) (inside i c)))
 
-    all : (g : List ℕ) → First m s k (r ++ drop w q) g → (i : ℕ) → coef (take k g) i % m ≡ coef r (i * s) % m
+    all : (g : List ℕ) → Begins m s k (r ++ drop w q) g → (i : ℕ) → coef (take k g) i % m ≡ coef r (i * s) % m
     all g x i = go (decLt i k)
       where
         go : Dec (i < k) → coef (take k g) i % m ≡ coef r (i * s) % m
@@ -158,11 +135,11 @@ lowest-digits {m} {s} {w} k {h} {b} {p} {q} {r} {t} d raised ew l divided digits
             ∙ sym (List·getD-eq-default r 0 (omega (arith, wide, N.mul-le-mul-right {m = k} {n = i} s (omega arith)))))
 
 -- one digit
-pub lowest-digit : {m s : ℕ} {h p q : List ℕ} {t : Bool} → Divisible m s h p → s ≤ length p → Divided m h s p q
-    → (t ≡ true → (i : ℕ) → 0 < i → coef (take s q) i ≡ 0) → (t ≡ false → (i : ℕ) × (0 < i) × ¬ (coef (take s q) i ≡ 0)) → Lowest m h s 1 p q t
-lowest-digit {m} {s} {h} {p} {q} {t} d l c flat bent = subst (λ (x : List ℕ). Lowest m h s 1 p x t) (take-append-drop s q)
+pub lowest-digit : {m s : ℕ} {h p q : List ℕ} {t : Bool} → DivisionAsked m s h p → s ≤ length p → Divided m h s p q
+    → ConstantIs (take s q) t → Lowest m h s 1 p q t
+lowest-digit {m} {s} {h} {p} {q} {t} d l c flat = subst (λ (x : List ℕ). Lowest m h s 1 p x t) (take-append-drop s q)
     (lowest-digits 1 d (raised-one (omega (arith, d .modulus .above-one)) (d .right)) (omega arith) l c
-    (flat-digits (remainder-divisible d c (d .above-zero) l) (omega (arith, length-take s q)) flat bent))
+    (flat-digits (remainder-asked d c (d .above-zero) l) (omega (arith, length-take s q)) flat))
 
 -- the digits below place `at` are found, and what is above it is the quotient
 pub record Reached (m : ℕ) (h : List ℕ) (s : ℕ) (p₀ : List ℕ) (at : ℕ) (p : List ℕ) : Type 0 where
@@ -184,7 +161,7 @@ pub reached-first : {m s : ℕ} {h p q : List ℕ} {t : Bool} → s < length p �
 reached-first {m} {s} {h} {p} {q} l d e = record { number = 1; place = omega arith; inside = rw (d .long) l; found = subst (Lowest m h s 1 p q) e d }
 
 -- before the first digit
-pub reached-none : {m s : ℕ} {h p : List ℕ} → Divisible m s h p → Reached m h s p 0 p
+pub reached-none : {m s : ℕ} {h p : List ℕ} → DivisionAsked m s h p → Reached m h s p 0 p
 reached-none {m} {s} {h} {p} d =
     record {
       number = 0;
@@ -200,27 +177,15 @@ module _ {m s at : ℕ} {h p₀ p : List ℕ} (above : 0 < s) (c : Reached m h s
   wide : length (take at p) ≡ at
   wide = length-take-le at p (N.le-of-lt (c .inside))
 
-  -- the quotient is what is lent
-  pub lent : take (length p - at) (drop at p) ≡ drop at p
-  lent = take-all (length p - at) (drop at p) (omega (arith, length-drop at p))
-
   module _ (q : List ℕ) where
-    -- and it comes back as q
-    pub returned : take at p ++ (q ++ drop (length p - at) (drop at p)) ≡ take at p ++ q
-    returned = ap (λ (x : List ℕ). take at p ++ (q ++ x)) (drop-of-length-le (drop at p) {i = length p - at} (omega (arith, length-drop at p))) ∙ ap (λ (x : List ℕ). take at p ++ x) (append-nil q)
-
     long : length q ≡ length (drop at p) → length (take at p ++ q) ≡ length p
     long f = length-append (take at p) q ∙ rw (wide, f, length-drop at p) (omega (arith, c .inside))
 
     below : ((i : ℕ) → coef q i < m) → (i : ℕ) → coef (take at p ++ q) i < m
-    below = both-below (take at p) q wide (λ i. small i (decLt i at))
-      where
-        small : (i : ℕ) → Dec (i < at) → coef (take at p) i < m
-        small i (yes b) = rw (getD-take at p i 0 b) (c .found .below i)
-        small i (no b) = rw (List·getD-eq-default (take at p) 0 {n = i} (omega (arith, wide))) (omega (arith, c .found .below 0))
+    below = join-below (take at p) q (take-below (omega (arith, c .found .below 0)) at p (λ i _. c .found .below i))
 
-    apart : (g : List ℕ) → Same m p₀ (after g h) ↔ (First m s j p g × Same m (drop at p) (after (drop j g) h))
-    apart g = subst (λ (n : ℕ). Same m p₀ (after g h) ↔ (First m s j p g × Same m (drop n p) (after (drop j g) h))) (sym (c .place)) (c .found .yes refl g)
+    apart : (g : List ℕ) → Same m p₀ (after g h) ↔ (Begins m s j p g × Same m (drop at p) (after (drop j g) h))
+    apart g = subst (λ (n : ℕ). Same m p₀ (after g h) ↔ (Begins m s j p g × Same m (drop n p) (after (drop j g) h))) (sym (c .place)) (c .found .yes refl g)
 
     -- the digits before are those of p
     before : (i : ℕ) → i < j → coef (take at p ++ q) (i * s) ≡ coef p (i * s)
@@ -231,10 +196,10 @@ module _ {m s at : ℕ} {h p₀ p : List ℕ} (above : 0 < s) (c : Reached m h s
     later i = let f : (j + i) * s ≡ at + i * s = omega (arith, c .place) in rw f (back (take at p) q wide (i * s))
 
     -- both together
-    joined : (k : ℕ) (g : List ℕ) → (First m s j p g × First m s k q (drop j g)) ↔ First m s (j + k) (take at p ++ q) g
+    joined : (k : ℕ) (g : List ℕ) → (Begins m s j p g × Begins m s k q (drop j g)) ↔ Begins m s (j + k) (take at p ++ q) g
     joined k g = (λ (x, y) i b. go x y i b (decLt i j), λ x. (λ i b. x i (omega arith) ∙ ap (λ (z : ℕ). z % m) (before i b), λ i b. ap (λ (z : ℕ). z % m) (getD-drop j g i 0) ∙ x (j + i) (omega arith) ∙ ap (λ (z : ℕ). z % m) (later i)))
       where
-        go : First m s j p g → First m s k q (drop j g) → (i : ℕ) → i < j + k → Dec (i < j) → coef g i % m ≡ coef (take at p ++ q) (i * s) % m
+        go : Begins m s j p g → Begins m s k q (drop j g) → (i : ℕ) → i < j + k → Dec (i < j) → coef g i % m ≡ coef (take at p ++ q) (i * s) % m
         go x y i b (yes d) = x i d ∙ ap (λ (z : ℕ). z % m) (sym (before i d))
         go x y i b (no d) = let f : i ≡ j + (i - j) = omega arith in rw f (ap (λ (z : ℕ). z % m) (sym (getD-drop j g (i - j) 0)) ∙ y (i - j) (omega arith) ∙ ap (λ (z : ℕ). z % m) (sym (later (i - j))))
 
@@ -277,8 +242,8 @@ module _ {m s at : ℕ} {h p₀ p : List ℕ} (above : 0 < s) (c : Reached m h s
   }
 
   -- the quotient may be divided again, too
-  pub reached-divisible : Divisible m s h p₀ → Divisible m s h (drop at p)
-  reached-divisible d =
+  pub reached-asked : DivisionAsked m s h p₀ → DivisionAsked m s h (drop at p)
+  reached-asked d =
       record {
         modulus = d .modulus;
         right = d .right;

@@ -3,14 +3,14 @@
 --   raised-one       h itself
 --   raised-room      one product more is within the limit
 --   raised-more      and gives one power more
-use mathlib.Core.Path.{_≡_, refl}
+use mathlib.Core.Path.{_≡_}
 use mathlib.Core.List.{List, [], _∷_}
-use Prim.Native.Nat.{ℕ, zero, suc, _+_, _*_, _%_, _≤_, _<_}
+use Prim.Native.Nat.{ℕ, suc, _+_, _*_, _≤_, _<_}
 use native.Mathlib.Nat as N
 use native.Mathlib.Numerals.{add-one}
 use native.Mathlib.Omega.{arith}
-use Rattle.algebra.specs.Polynomial.{coef, plus, times, power, limit, terms, reduced, Same, Monic, Held}
-use Rattle.algebra.proofs.Polynomials.{_⨾_, same-refl, same-sym, plus-same, plus-nothing, times-same, times-comm, times-one, monic-same}
+use Rattle.algebra.specs.Polynomial.{plus, times, power, limit, terms, reduced, Same, Monic, Held}
+use Rattle.algebra.proofs.Polynomials.{_⨾_, same-refl, same-sym, zero-nothing, plus-same, plus-nothing, times-same, times-comm, times-one, monic-same}
 use Rattle.algebra.proofs.Coefficients.{power-monic}
 use Rattle.algebra.proofs.Reduction.{reduced-reduced, reduced-above, monic-reduced}
 use Rattle.composition.specs.Composition.{Room}
@@ -35,12 +35,8 @@ module _ {m s i k : ℕ} {h b : List ℕ} (pos : 0 < m) (right : Held m s h) (l 
       product : List ℕ
       product = plus (0 ∷ []) (times h b)
 
-      nothing : (j : ℕ) → coef (0 ∷ []) j % m ≡ coef [] j % m
-      nothing zero = refl
-      nothing (suc j) = refl
-
       next : Same m product (times h (power h i))
-      next = plus-same m pos (record { at = nothing }) (times-same m pos (same-refl h) (c .same)) ⨾ plus-nothing m pos _
+      next = plus-same m pos (zero-nothing m pos) (times-same m pos (same-refl h) (c .same)) ⨾ plus-nothing m pos _
 
       monic : Monic m ((i + 1) * s) product
       monic = rw (add-one i) (monic-same m pos (same-sym next) (power-monic m pos (right .monic) (suc i)))

@@ -1,12 +1,14 @@
--- Repeated division by h (document 001, 3.1): a polynomial's digits in powers of h, worked out in place. A list is a polynomial.
+-- Repeated division by h (document 001, 3.1): a polynomial's digits in powers of h, worked out in place. A list is a polynomial,
+-- and its digits are its places, s at a time, s being the degree of h.
 --
---   Divisible m s h p      h is of degree s, 1 or more; p has numbers below m, at least one and no more than the desk's polynomials
---   Divided m h s p q      q is p divided by h: its lowest s places are the remainder, those above them the quotient
---   Raised m h s k b       b is h^k
---   First m s k q g        g begins with the constants of q's lowest k digits of s places each
---   Lowest m h s k p q t   t: q has p's lowest k digits, all constants, and above them the quotient; else p is no g(h)
---   Digits m h s p q t     t: q has p's digits, all constants; else p is no g(h)
---   Constants s k a g      g has the constants of the lowest k digits of a as its coefficients
+--   DivisionAsked m s h p   h is of degree s, 1 or more; p has at least one number, all below m, and no more than a polynomial has
+--   Divided m h s p q       q is p divided by h: its lowest s places are the remainder, those above them the quotient
+--   Raised m h s k b        b is h^k
+--   ConstantIs p t          t tells whether p has nothing above x^0
+--   Begins m s k q g        the first k coefficients of g are the constants of q's lowest k digits
+--   Lowest m h s k p q t    t: p = g(h) exactly if g begins so and the quotient, above these digits, is the rest of g, after h;
+--                           else p is no g(h)
+--   Digits m h s p q t      t: p = g(h) exactly if the coefficients of g are the constants of q's digits; else p is no g(h)
 use mathlib.Core.Path.{_≡_}
 use mathlib.Core.Logic.{_↔_}
 use mathlib.Core.Bool.{Bool, true, false}
@@ -17,7 +19,7 @@ use Rattle.algebra.specs.Number.{Modulus}
 use Rattle.algebra.specs.Polynomial.{coef, plus, times, power, after, terms, Same, Held}
 
 -- what may be divided by h
-pub record Divisible (m s : ℕ) (h p : List ℕ) : Type 0 where
+pub record DivisionAsked (m s : ℕ) (h p : List ℕ) : Type 0 where
   pub modulus : Modulus m
   pub right : Held m s h
   pub above-zero : 0 < s
@@ -36,26 +38,25 @@ pub record Raised (m : ℕ) (h : List ℕ) (s k : ℕ) (b : List ℕ) : Type 0 w
   pub held : Held m (k * s) b
   pub same : Same m b (power h k)
 
--- the first k coefficients of g
-abbrev pub First : ℕ → ℕ → ℕ → List ℕ → List ℕ → Type 0
-First m s k q g = (i : ℕ) → i < k → coef g i % m ≡ coef q (i * s) % m
+-- nothing above x^0, or something
+pub record ConstantIs (p : List ℕ) (t : Bool) : Type 0 where
+  pub yes : t ≡ true → (i : ℕ) → 0 < i → coef p i ≡ 0
+  pub no : t ≡ false → (i : ℕ) × (0 < i) × ¬ (coef p i ≡ 0)
 
--- with a yes, p = g(h) exactly if g begins with these constants, and the quotient is the rest of g, after h
+-- g has the digits' constants as far as k
+abbrev pub Begins : ℕ → ℕ → ℕ → List ℕ → List ℕ → Type 0
+Begins m s k q g = (i : ℕ) → i < k → coef g i % m ≡ coef q (i * s) % m
+
+-- the lowest k digits are taken off: what is left to ask is asked of the quotient
 pub record Lowest (m : ℕ) (h : List ℕ) (s k : ℕ) (p q : List ℕ) (t : Bool) : Type 0 where
   pub long : length q ≡ length p
   pub below : (i : ℕ) → coef q i < m
-  pub yes : t ≡ true → (g : List ℕ) → Same m p (after g h) ↔ (First m s k q g × Same m (drop (k * s) q) (after (drop k g) h))
+  pub yes : t ≡ true → (g : List ℕ) → Same m p (after g h) ↔ (Begins m s k q g × Same m (drop (k * s) q) (after (drop k g) h))
   pub no : t ≡ false → (g : List ℕ) → Same m p (after g h) → ⊥
 
--- with a yes, p = g(h) exactly if these constants are the coefficients of g
+-- all digits are found: nothing is left to ask
 pub record Digits (m : ℕ) (h : List ℕ) (s : ℕ) (p q : List ℕ) (t : Bool) : Type 0 where
   pub long : length q ≡ length p
   pub below : (i : ℕ) → coef q i < m
   pub yes : t ≡ true → (g : List ℕ) → Same m p (after g h) ↔ ((i : ℕ) → coef g i % m ≡ coef q (i * s) % m)
   pub no : t ≡ false → (g : List ℕ) → Same m p (after g h) → ⊥
-
--- they, and zeros
-pub record Constants (s k : ℕ) (a g : List ℕ) : Type 0 where
-  pub long : length g ≡ terms
-  pub is : (i : ℕ) → i < k → coef g i ≡ coef a (i * s)
-  pub past : (i : ℕ) → k ≤ i → coef g i ≡ 0

@@ -1,14 +1,13 @@
-// The left part of f for a given right part h, by repeated division by h with remainder (document 001, 3.1): the remainders are
-// the digits of f in powers of h. f = g(h) exactly if every digit is a constant, and then they are the coefficients of g. One
-// list holds the digits found and, above them, the quotient still to be divided. Where there are many digits some are taken at
-// once, by a division by h^k, and then told apart by divisions by h.
+// The left part of f for a given right part h, by repeated division by h with remainder (document 001, 3.1; true remainders,
+// since its r_i = q_i(0) wants h(0) = 0): the remainders are the digits of f in powers of h. f = g(h) exactly if every digit is
+// a constant, and then they are the coefficients of g. One list holds the digits found and, above them, the quotient still to
+// be divided. Where there are many digits some are taken at once, by a division by h^k, and told apart by divisions by h.
 ghost use mathlib.Core.Path.{_≡_};
-ghost use mathlib.Core.Bool.{true, false};
 ghost use Prim.Native.Nat.{ℕ, _+_, _*_, _≤_, _<_};
 ghost use lib.ListN.{length};
-ghost use Rattle.algebra.specs.Number.{Modulus};
+ghost use Rattle.algebra.specs.Number.{table, Modulus};
 ghost use Rattle.algebra.specs.Polynomial.{coef, limit, terms, Held};
-ghost use Rattle.left.specs.Division.{Divisible, Divided, Raised, Lowest, Digits, Constants};
+ghost use Rattle.left.specs.Division.{DivisionAsked, Divided, Raised, ConstantIs, Lowest, Digits};
 ghost use Rattle.left.specs.Left.{LeftAsked, LeftAnswer};
 use polynomial::Answer;
 use polynomial::Coefficients;
@@ -17,26 +16,26 @@ use refusal::Concerns;
 use refusal::Outcome;
 use refusal::Reason;
 
-// p divided by h, of degree s, in place: its lowest s places become the remainder, those above them the quotient.
+// p divided by h, of degree s, in place: its lowest s places become the remainder, those above them the quotient. From the top
+// down, each place loses what the quotient's places above it, times h without its leading 1, give there.
 fn divide(p: &mut [u32], h: &[u32], s: usize, m: u64)
-    requires { ⌜ Divisible m s (now h) (now p) × (s ≤ length (now p)) ⌝ }
+    requires { ⌜ DivisionAsked m s (now h) (now p) × (s ≤ length (now p)) ⌝ }
     ensures { λ _. ⌜ Divided m (now (h .entry)) s (now (p .entry)) (now (p .exit)) ⌝ }
 {
     let mut i = p.len();
     while 0 < i {
-        let k = i + s;
-        let lo = k - polynomial::smaller(k, p.len());
+        let end = i + s;
+        let lo = end - polynomial::smaller(end, p.len());
         let hi = polynomial::smaller(s, i);
         i -= 1;
-        let x = residue::inner_product(h, p, k - 1, lo, hi, m);
+        let x = residue::inner_product(h, p, end - 1, lo, hi, m);
         p[i] = residue::subtract(p[i], x, m);
     }
 }
 
 // Whether p is a constant.
 fn is_constant(p: &[u32]) -> bool
-    ensures yes { λ t. ⌜ (t ≡ true → (i : ℕ) → 0 < i → coef (now (p .entry)) i ≡ 0) ⌝ }
-    ensures no { λ t. ⌜ (t ≡ false → (i : ℕ) × (0 < i) × ¬ (coef (now (p .entry)) i ≡ 0)) ⌝ }
+    ensures { λ t. ⌜ ConstantIs (now (p .entry)) t ⌝ }
 {
     let mut i = 1;
     while i < p.len() {
@@ -48,18 +47,18 @@ fn is_constant(p: &[u32]) -> bool
     true
 }
 
-// The lowest digit of p; above it the quotient. Whether the digit is a constant.
+// The lowest digit of p, and above it the quotient; "no" if the digit is no constant.
 fn digit(p: &mut [u32], h: &[u32], s: usize, m: u64) -> bool
-    requires { ⌜ Divisible m s (now h) (now p) × (s ≤ length (now p)) ⌝ }
+    requires { ⌜ DivisionAsked m s (now h) (now p) × (s ≤ length (now p)) ⌝ }
     ensures { λ t. ⌜ Lowest m (now (h .entry)) s 1 (now (p .entry)) (now (p .exit)) t ⌝ }
 {
     divide(p, h, s, m);
     is_constant(&p[..s])
 }
 
-// All digits of p, one by one. Whether they are constants; one that is none ends it.
+// All digits of p, one by one; one that is no constant ends it with "no".
 fn digits(p: &mut [u32], h: &[u32], s: usize, m: u64) -> bool
-    requires { ⌜ Divisible m s (now h) (now p) ⌝ }
+    requires { ⌜ DivisionAsked m s (now h) (now p) ⌝ }
     ensures { λ t. ⌜ Digits m (now (h .entry)) s (now (p .entry)) (now (p .exit)) t ⌝ }
 {
     let mut at = 0;
@@ -72,9 +71,9 @@ fn digits(p: &mut [u32], h: &[u32], s: usize, m: u64) -> bool
     is_constant(&p[at..])
 }
 
-// The lowest k digits of p at once: the remainder by b = h^k has them. Whether they are constants.
+// The lowest k digits of p at once: the remainder by b = h^k has them.
 fn block(p: &mut [u32], h: &[u32], b: &[u32], k: usize, s: usize, m: u64) -> bool
-    requires { ⌜ Divisible m s (now h) (now p) × Raised m (now h) s k (now b) × (0 < k) × (k * s ≤ length (now p)) ⌝ }
+    requires { ⌜ DivisionAsked m s (now h) (now p) × Raised m (now h) s k (now b) × (0 < k) × (k * s ≤ length (now p)) ⌝ }
     ensures { λ t. ⌜ Lowest m (now (h .entry)) s k (now (p .entry)) (now (p .exit)) t ⌝ }
 {
     let w = k * s;
@@ -82,9 +81,9 @@ fn block(p: &mut [u32], h: &[u32], b: &[u32], k: usize, s: usize, m: u64) -> boo
     digits(&mut p[..w], h, s, m)
 }
 
-// All digits of p, k at once by b = h^k as long as there are so many, and the others one by one.
+// All digits of p, k at once by b = h^k as long as there are more than k, and the others one by one.
 fn blocks(p: &mut [u32], h: &[u32], b: &[u32], k: usize, s: usize, m: u64) -> bool
-    requires { ⌜ Divisible m s (now h) (now p) × Raised m (now h) s k (now b) × (0 < k) ⌝ }
+    requires { ⌜ DivisionAsked m s (now h) (now p) × Raised m (now h) s k (now b) × (0 < k) ⌝ }
     ensures { λ t. ⌜ Digits m (now (h .entry)) s (now (p .entry)) (now (p .exit)) t ⌝ }
 {
     let w = k * s;
@@ -98,7 +97,7 @@ fn blocks(p: &mut [u32], h: &[u32], b: &[u32], k: usize, s: usize, m: u64) -> bo
     digits(&mut p[at..], h, s, m)
 }
 
-// h^k, from h itself, in place.
+// b, which is h, becomes h^k.
 fn raise(b: &mut [u32], h: &[u32], k: usize, s: usize, m: u64)
     requires { ⌜ Modulus m × Held m s (now h) × (now b ≡ now h) × (0 < k) × (k * s ≤ limit) ⌝ }
     ensures { λ _. ⌜ Raised m (now (h .entry)) s k (now (b .exit)) ⌝ }
@@ -108,7 +107,8 @@ fn raise(b: &mut [u32], h: &[u32], k: usize, s: usize, m: u64)
     }
 }
 
-// How many digits are taken at once where there are r. What is fastest was measured (bench/README.md).
+// How many of the r digits after the first are taken at once: many make h^k longer, few make more divisions that wait for each
+// other. The steps are measured ones (bench/README.md).
 fn at_once(r: usize) -> usize
     requires { ⌜ 0 < r ⌝ }
     ensures { λ k. ⌜ (0 < k) × (k ≤ r) ⌝ }
@@ -125,9 +125,9 @@ fn at_once(r: usize) -> usize
     5
 }
 
-// All digits of p, of degree r * s: the first one by itself, as there most polynomials that are no g(h) show it.
+// All digits of p, of degree r * s: the first by itself, since most polynomials that are no g(h) show it there.
 fn expand(p: &mut [u32], h: &Coefficients, r: usize, s: usize, m: u64) -> bool
-    requires { ⌜ Divisible m s (now h) (now p) × (length (now p) ≡ r * s + 1) × (0 < r) ⌝ }
+    requires { ⌜ DivisionAsked m s (now h) (now p) × (length (now p) ≡ r * s + 1) × (0 < r) ⌝ }
     ensures { λ t. ⌜ Digits m (now (h .entry)) s (now (p .entry)) (now (p .exit)) t ⌝ }
 {
     if !digit(p, h, s, m) {
@@ -139,15 +139,18 @@ fn expand(p: &mut [u32], h: &Coefficients, r: usize, s: usize, m: u64) -> bool
     blocks(&mut p[s..], h, &b, k, s, m)
 }
 
-// The constants of the digits 0 to r, as a polynomial.
+// The constants of the digits, of which a has no more than r + 1, as a polynomial.
 fn constants(a: &[u32], r: usize, s: usize) -> Coefficients
-    requires { ⌜ (length (now a) ≡ terms) × (0 < s) × (r * s ≤ limit) ⌝ }
-    ensures { λ g. ⌜ Constants s (r + 1) (now (a .entry)) g ⌝ }
+    requires { ⌜ (length (now a) ≡ terms) × (0 < s) × (r * s ≤ limit) × ((i : ℕ) → r < i → coef (now a) (i * s) ≡ 0) ⌝ }
+    ensures { λ g. ⌜ g ≡ table terms (λ i. coef (now (a .entry)) (i * s)) ⌝ }
 {
     let mut g = [0; TERMS];
-    for i in 0..r + 1 {
+    let mut i = r;
+    while i != 0 {
         g[i] = a[i * s];
+        i -= 1;
     }
+    g[0] = a[0];
     g
 }
 

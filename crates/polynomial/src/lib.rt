@@ -58,7 +58,7 @@ pub fn no_parts(outcome: Outcome) -> Parts
     }
 }
 
-// The smaller of two degrees.
+// The smaller of two numbers.
 pub fn smaller(a: usize, b: usize) -> usize
     ensures { λ r. ⌜ r ≡ min a b ⌝ }
 {

@@ -7,10 +7,12 @@
 --   plus, times, raised   the same number added, multiplied, or taken as an exponent on both sides
 --   cancel                what was added goes
 --   remainder             what is congruent and below m is the remainder
+--   restored              a difference, and what was taken off put back
 --   one-more              a sum that is reduced with each term, by one term more
 use mathlib.Core.Path.{_≡_, refl, sym, _∙_, ap, ap₂}
-use Prim.Native.Nat.{ℕ, _+_, _*_, _%_, _^_, _<_}
-use native.Mathlib.Nat.{mod-mod, mod-add-mod, add-mod-mod, mod-eq-of-lt, add-mod-right}
+use Prim.Native.Nat.{ℕ, _+_, _*_, _-_, _%_, _^_, _<_}
+use native.Mathlib.Nat.{mod-mod, mod-add-mod, add-mod-mod, mod-eq-of-lt, mod-lt, add-mod-right}
+use native.Mathlib.Omega.{arith}
 use Rattle.algebra.proofs.Numbers.{mul-same, pow-same, add-cancel}
 
 pub record Congruent (m x y : ℕ) : Type 0 where
@@ -48,6 +50,13 @@ cancel {m} {x} {z} k h e = record { same = add-cancel m x z k h (e .same) }
 
 pub remainder : {m x y : ℕ} → x < m → Congruent m x y → x ≡ y % m
 remainder h e = sym (mod-eq-of-lt h) ∙ e .same
+
+-- what was taken off is put back
+pub restored : {m a d x : ℕ} (b : ℕ) → 0 < m → d ≡ b % m → x ≡ (a + (m - d)) % m → Congruent m (x + b) a
+restored {m} {a} {d} {x} b pos de xe =
+    let c : a + (m - d) + b ≡ b + (a + (m - d)) = omega arith in
+    let t : a + m ≡ d + (a + (m - d)) = omega (arith, de, mod-lt b pos) in
+    plus b (reduced xe) then from-eq c then plus (a + (m - d)) (turn (reduced de)) then turn (wrapped t)
 
 pub one-more : (m s p : ℕ) {s′ q w w′ : ℕ} → w ≡ s % m → q ≡ p % m → w′ ≡ (w + q) % m → s′ ≡ s + p → w′ ≡ s′ % m
 one-more m s p e f g h = g ∙ ap₂ (λ (x y : ℕ). (x + y) % m) e f ∙ mod-add-mod s m (p % m) ∙ add-mod-mod s p m ∙ ap (λ (x : ℕ). x % m) (sym h)

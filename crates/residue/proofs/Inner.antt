@@ -4,6 +4,7 @@
 --   inner-start, inner-next       the same for a loop over i from lo on
 --   inner-zeros                   a sum of products that are all 0 is 0
 --   inner-split                   the sum of n + j terms is that of the first n and that of the last j
+--   inner-drop                    a list that is read from a later place on
 --   inner-extensional             lists that agree at the sum's indices have the same sum
 --   strided-..                    the same of `strided`
 --   stride-start, stride-inside, stride-next     the place that a loop over i has reached
@@ -12,6 +13,8 @@ use mathlib.Core.List.{List}
 use Prim.Native.Nat.{ℕ, suc, _+_, _-_, _*_, _≤_, _<_}
 use native.Mathlib.Nat.{add-assoc, sub-self, zero-mul, add-zero}
 use native.Mathlib.Omega.{arith}
+use lib.ListN.{drop}
+use lib.Seq.{getD-drop}
 use Rattle.algebra.specs.Number.{sum}
 use Rattle.algebra.specs.Polynomial.{coef}
 use Rattle.algebra.proofs.Numbers.{sum-none, sum-more, sum-split, sum-ext, sum-zeros}
@@ -43,6 +46,11 @@ module _ (a b : List ℕ) (k lo : ℕ) where
   unfolding inner
   inner-split n j = sum-split n j _ ∙ ap (λ (x : ℕ). sum n (λ i. coef a (lo + i) * coef b (k - (lo + i))) + x)
       (sum-ext j _ _ (λ i l. ap (λ (x : ℕ). coef a x * coef b (k - x)) (sym (add-assoc lo n i))))
+
+-- places of the second list counted from d on
+pub inner-drop : (a b : List ℕ) (d k lo n : ℕ) → lo + n ≤ k + 1 → inner a (drop d b) k lo n ≡ inner a b (k + d) lo n
+unfolding inner
+inner-drop a b d k lo n l = sum-ext n _ _ (λ i c. ap (λ (x : ℕ). coef a (lo + i) * x) (getD-drop d b (k - (lo + i)) 0 ∙ ap (coef b) (omega arith)))
 
 pub inner-extensional : (a a′ b b′ : List ℕ) (k lo n : ℕ) → ((i : ℕ) → lo ≤ i → i < lo + n → coef a i ≡ coef a′ i)
     → ((i : ℕ) → lo ≤ i → i < lo + n → coef b (k - i) ≡ coef b′ (k - i)) → inner a b k lo n ≡ inner a′ b′ k lo n

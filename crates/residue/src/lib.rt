@@ -177,8 +177,8 @@ fn whole(x: u32, y: u32) -> u64
     x as u64 * y as u64
 }
 
-// The sum of a[i] * b[k - i] for i from lo to hi - 1, round at 2^32. Its last term stays out of the loop: a division in place
-// has just stored it, and the loop's loads, of several words at a time, would wait for that store.
+// The sum of a[i] * b[k - i] for i from lo to hi - 1, round at 2^32. The last term stays out of the loop: in a division in place
+// its factor of b was stored just before, and loads of several words at a time would wait for that store.
 fn inner_words(a: &[u32], b: &[u32], k: usize, lo: usize, hi: usize) -> u32
     requires { ⌜ Within (length (now a)) (length (now b)) k lo hi ⌝ }
     ensures { λ r. ⌜ r ≡ inner (now (a .entry)) (now (b .entry)) k lo (hi - lo) % 2 ^ 32 ⌝ }

@@ -7,18 +7,19 @@
 --   rows-none, rows-next         the columns one after the other: row 0 by 01's equation, solved by the inverse of r
 use mathlib.Core.Path.{_≡_, refl, sym, _∙_, ap, ap₂}
 use mathlib.Core.Logic.{⊎-elim}
-use mathlib.Core.List.{List, [], _∷_}
-use Prim.Native.Nat.{ℕ, zero, suc, min, _+_, _*_, _-_, _%_, _≤_, _<_}
+use mathlib.Core.List.{List}
+use Prim.Native.Nat.{ℕ, suc, min, _+_, _*_, _-_, _%_, _≤_, _<_}
 use native.Mathlib.Nat.{mul-add-mod-self-right, mod-eq-of-lt, mod-lt, mul-le-mul-left, mul-le-mul-right, mul-lt-mul-of-pos-right, eq-or-lt-of-le}
 use native.Mathlib.Omega.{arith}
 use lib.ListN.{length, set, length-set, replicate, length-replicate}
 use lib.Seq.{getD-set-same, getD-set-other}
 use Rattle.algebra.specs.Polynomial.{coef, limit, terms}
 use Rattle.residue.specs.Residue.{inner, strided, Strides}
-use Rattle.residue.proofs.Congruent.{Congruent, from-eq, reduced, wrapped, turn, plus, times, _then_}
+use Rattle.residue.proofs.Congruent.{Congruent, from-eq, reduced, plus, times, restored, _then_}
 use Rattle.residue.proofs.Inner.{inner-extensional, strided-extensional}
 use Rattle.polynomial.specs.Degrees.{Degrees}
 use Rattle.polynomial.proofs.Filling.{zeros}
+use Rattle.polynomial.proofs.Below.{set-below}
 use Rattle.right.specs.Rows.{Before, Column, Rows}
 
 pub left-twice : {n r s : ℕ} → Degrees n r s → r + r ≤ n
@@ -69,14 +70,6 @@ before-strided {s} {k} {a} {a′} b c n l h =
 set-strided : {s : ℕ} (b a : List ℕ) (k x n : ℕ) → 0 < s → strided b (set a k x) 2 (s + k) s n ≡ strided b a 2 (s + k) s n
 set-strided {s} b a k x n l = strided-extensional b b (set a k x) a 2 (s + k) s n (λ i g. refl) (λ i g. getD-set-other a k (s + k + i * s) x 0 (λ q. omega arith))
 
--- a store of a number below m
-set-small : {m : ℕ} (b : List ℕ) (p x : ℕ) → x < m → ((i : ℕ) → coef b i < m) → (i : ℕ) → coef (set b p x) i < m
-set-small [] p x l h i = h i
-set-small (y ∷ b) zero x l h zero = l
-set-small (y ∷ b) zero x l h (suc i) = h (suc i)
-set-small (y ∷ b) (suc p) x l h zero = h zero
-set-small (y ∷ b) (suc p) x l h (suc i) = set-small b p x l (λ j. h (suc j)) i
-
 -- before the first row, and after row i + 1
 pub column-none : {m s k : ℕ} {a : List ℕ} → Column m s k 0 a a
 column-none = record { long = refl; small = λ h. h; before = before-refl; is = λ i l. omega arith }
@@ -85,7 +78,7 @@ pub column-more : {m s k i : ℕ} {a b : List ℕ} {p n x : ℕ} → 0 < m → k
     → n ≡ k - suc i → x ≡ inner b b p 1 n % m → Column m s k i a b → Column m s k (i + 1) a (set b (p + s) x)
 column-more {m} {s} {k} {i} {a} {b} {p} {n} {x} pos l ik e inside f v h = record {
   long = length-set b (p + s) x ∙ h .long;
-  small = λ g. set-small b (p + s) x (rw v (mod-lt _ pos)) (h .small g);
+  small = λ g. set-below b (p + s) x (rw v (mod-lt _ pos)) (h .small g);
   before = before-set (suc i) x l row (h .before);
   is = λ j g. ⊎-elim
       (λ (q : j ≡ i). rw q (ap (coef (set b (p + s) x)) (sym row) ∙ getD-set-same b (p + s) x 0 inside ∙ v ∙ ap₂ (λ (c d : ℕ). inner b b c 1 d % m) e f ∙ same i (omega arith)))
@@ -132,11 +125,8 @@ solved m r u a S {d} {x} {y} pos unit de xe ye =
     let w : r * y + S ≡ y * r + S = omega arith in
     let v : x * u * r ≡ u * r * x = omega arith in
     let o : 1 * x ≡ x = omega arith in
-    let c : a + (m - d) + S ≡ S + (a + (m - d)) = omega arith in
-    let t : a + m ≡ d + (a + (m - d)) = omega (arith, de, mod-lt S pos) in
     let U : Congruent m (u * r) 1 = record { same = unit } in
-    (from-eq w then plus S (times r (reduced ye) then from-eq v then times x U then from-eq o then reduced xe)
-    then from-eq c then plus (a + (m - d)) (turn (reduced de)) then turn (wrapped t)) .same
+    (from-eq w then plus S (times r (reduced ye) then from-eq v then times x U then from-eq o) then restored S pos de xe) .same
 
 -- before the first column
 pub rows-none : {m : ℕ} {f : List ℕ} {r s : ℕ} {b : List ℕ} → 0 < m → Rows m f r s b 1 (replicate terms 0)
@@ -169,7 +159,7 @@ module _ {m : ℕ} {f : List ℕ} {r s : ℕ} {b : List ℕ} {k : ℕ} {a : List
   pub rows-next : Rows m f r s b (k + 1) (set a′ k y)
   rows-next = record {
     long = length-set a′ k y ∙ C .long ∙ R .long;
-    small = set-small a′ k y (rw ye (mod-lt _ pos)) (C .small (R .small));
+    small = set-below a′ k y (rw ye (mod-lt _ pos)) (C .small (R .small));
     is = λ c i g h. ⊎-elim
         (λ (q : c ≡ k). rw q (getD-set-other a′ k (suc i * s + k) y 0 (λ w. omega arith) ∙ C .is i (omega arith) ∙ ap (λ (n : ℕ). n % m) (sym (before-inner i (k - suc i) (omega arith) fresh))))
         (λ (q : c < k). all .at (suc i) c q ∙ R .is c i q h ∙ ap (λ (n : ℕ). n % m) (sym (before-inner i (c - suc i) (omega arith) (before-less (omega arith) all))))

@@ -16,7 +16,7 @@ pub struct NearSplit;
 /// With h(0) zero, and at the moduli that give r an inverse.
 fn walk() -> &'static Walk {
     static WALK: OnceLock<Walk> = OnceLock::new();
-    WALK.get_or_init(|| Walk::new(&[true], near::moduli_without))
+    WALK.get_or_init(|| Walk::new(&[true], near::moduli_inverting))
 }
 
 impl Operation for NearSplit {

@@ -3,7 +3,7 @@ use native.Mathlib.Omega.{arith}
 use borrow.Author.Needs.{needs}
 use lib.Seq.{length-take-le}
 use Rattle.algebra.specs.Polynomial.{terms, limit}
-use Rattle.left.proofs.Expanding.{lowest-digits, remainder-divisible, raised-divisible}
+use Rattle.left.proofs.Expanding.{lowest-digits, remainder-asked, raised-asked}
 use Rattle.left.proofs.block.Statement.{statement}
 use Rattle.left.proofs.block.Tie as tie
 
@@ -14,7 +14,7 @@ mul-w c = omega (arith, c .before .before .before .pre .1 .held .within)
 divide-requires : tie.Need-divide-requires
 divide-requires c κs =
     let p = c .before .before .before .before .pre in
-    (raised-divisible (p .0) (p .1) (p .2), p .3)
+    (raised-asked (p .0) (p .1) (p .2), p .3)
 
 slice-aggregate-digits : tie.Need-slice-aggregate-digits
 slice-aggregate-digits c = sym (length-take-le _ _ (omega arith))
@@ -22,7 +22,7 @@ slice-aggregate-digits c = sym (length-take-le _ _ (omega arith))
 digits-requires : tie.Need-digits-requires
 digits-requires c κs =
     let p = c .before .before .before .before .before .before .before .before .pre in
-    remainder-divisible (p .0) (c .before .before .before .divide .ensures) (raised-divisible (p .0) (p .1) (p .2) .above-zero) (p .3)
+    remainder-asked (p .0) (c .before .before .before .divide .ensures) (raised-asked (p .0) (p .1) (p .2) .above-zero) (p .3)
 
 returns : tie.Need-returns
 returns c =

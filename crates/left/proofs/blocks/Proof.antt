@@ -5,7 +5,8 @@ use borrow.Author.Needs.{needs}
 use borrow.Author.Tests.{not-true, not-false}
 use lib.ListN.{length, length-drop}
 use Rattle.algebra.specs.Polynomial.{terms, limit}
-use Rattle.left.proofs.Expanding.{Reached, reached-none, reached-more, reached-no, reached-last, reached-divisible, raised-divisible, lent, returned}
+use Rattle.left.proofs.Pieces.{lent, returned}
+use Rattle.left.proofs.Expanding.{Reached, reached-none, reached-more, reached-no, reached-last, reached-asked, raised-asked}
 use Rattle.left.proofs.blocks.Statement.{statement}
 use Rattle.left.proofs.blocks.Tie as tie
 
@@ -26,37 +27,37 @@ block-requires : tie.Need-block-requires Inv-loop μ-loop
 block-requires c κs =
     let p = c .before .before .before .before .before .before .pre in
     let l = c .before .before .loop in
-    rw (lent (p .0 .above-zero) (l .inv .1)) (reached-divisible (p .0 .above-zero) (l .inv .1) (p .0), p .1, p .2, omega (arith, length-drop (l .at) (l .p), c .before .loop-test .taken))
+    rw (lent (l .at) (l .p)) (reached-asked (p .0 .above-zero) (l .inv .1) (p .0), p .1, p .2, omega (arith, length-drop (l .at) (l .p), c .before .loop-test .taken))
 
 returns : tie.Need-returns Inv-loop μ-loop
 returns c =
     let p = c .before .before .before .before .before .before .before .before .before .before .pre in
     let l = c .before .before .before .before .before .before .loop in
-    rw (returned (p .0 .above-zero) (l .inv .1) _) (reached-no (p .0 .above-zero) (l .inv .1) _ (rw (lent (p .0 .above-zero) (l .inv .1)) at (c .before .before .before .block .ensures)) (not-true _ (c .if1 .taken)))
+    rw (returned (l .at) (l .p) _) (reached-no (p .0 .above-zero) (l .inv .1) _ (rw (lent (l .at) (l .p)) at (c .before .before .before .block .ensures)) (not-true _ (c .if1 .taken)))
 
 loop-less : tie.Need-loop-less Inv-loop μ-loop
 loop-less c =
     let p = c .before .before .before .before .before .before .before .before .before .before .pre in
     let l = c .before .before .before .before .before .before .loop in
-    omega (arith, raised-divisible (p .0) (p .1) (p .2) .above-zero, l .inv .0, l .inv .1 .inside)
+    omega (arith, raised-asked (p .0) (p .1) (p .2) .above-zero, l .inv .0, l .inv .1 .inside)
 
 loop-again : tie.Need-loop-again Inv-loop μ-loop
 loop-again c =
     let p = c .before .before .before .before .before .before .before .before .before .before .pre in
     let l = c .before .before .before .before .before .before .loop in
-    (refl, rw (returned (p .0 .above-zero) (l .inv .1) _) (reached-more (p .0 .above-zero) (l .inv .1) _ refl (omega (arith, c .before .before .before .before .before .loop-test .taken)) (rw (lent (p .0 .above-zero) (l .inv .1)) at (c .before .before .before .block .ensures)) (not-false _ (c .if1 .left))))
+    (refl, rw (returned (l .at) (l .p) _) (reached-more (p .0 .above-zero) (l .inv .1) _ refl (omega (arith, c .before .before .before .before .before .loop-test .taken)) (rw (lent (l .at) (l .p)) at (c .before .before .before .block .ensures)) (not-false _ (c .if1 .left))))
 
 digits-requires : tie.Need-digits-requires Inv-loop μ-loop
 digits-requires c κs =
     let p = c .before .before .before .before .before .before .pre in
     let l = c .before .before .loop in
-    rw (lent (p .0 .above-zero) (l .inv .1)) (reached-divisible (p .0 .above-zero) (l .inv .1) (p .0))
+    rw (lent (l .at) (l .p)) (reached-asked (p .0 .above-zero) (l .inv .1) (p .0))
 
 returns-2 : tie.Need-returns-2 Inv-loop μ-loop
 returns-2 c =
     let p = c .before .before .before .before .before .before .before .before .before .pre in
     let l = c .before .before .before .before .before .loop in
-    rw (returned (p .0 .above-zero) (l .inv .1) _) (reached-last (p .0 .above-zero) (l .inv .1) (rw (lent (p .0 .above-zero) (l .inv .1)) at (c .before .before .digits .ensures)))
+    rw (returned (l .at) (l .p) _) (reached-last (p .0 .above-zero) (l .inv .1) (rw (lent (l .at) (l .p)) at (c .before .before .digits .ensures)))
 
 pub blocks-spec : {M : Type 1} → statement M
 unfolding terms limit

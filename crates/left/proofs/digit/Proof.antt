@@ -13,7 +13,7 @@ slice-aggregate-is-constant c = sym (length-take-le _ _ (omega arith))
 returns : tie.Need-returns
 returns c =
     let p = c .before .before .before .before .before .before .before .before .pre in
-    lowest-digit (p .0) (p .1) (c .before .before .before .before .divide .ensures) (c .is-constant .ensures .0) (c .is-constant .ensures .1)
+    lowest-digit (p .0) (p .1) (c .before .before .before .before .divide .ensures) (c .is-constant .ensures)
 
 pub digit-spec : {M : Type 1} → statement M
 unfolding terms limit

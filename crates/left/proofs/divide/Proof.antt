@@ -1,5 +1,5 @@
 use mathlib.Core.Path.{_≡_, refl}
-use Prim.Native.Nat.{_≤_}
+use Prim.Native.Nat.{_-_, _≤_}
 use native.Mathlib.Nat.{mod-lt}
 use native.Mathlib.Omega.{arith}
 use borrow.Author.Needs.{needs}
@@ -18,9 +18,9 @@ abbrev μ-loop : tie.MeasureT-loop
 loop-holds : tie.Need-loop-holds Inv-loop μ-loop
 loop-holds c = (omega arith, dividing-none refl (c .before .before .pre .0 .below))
 
-add-k : tie.Need-add-k Inv-loop μ-loop
+add-end : tie.Need-add-end Inv-loop μ-loop
 unfolding terms limit
-add-k c =
+add-end c =
     let p = c .before .before .before .before .pre in
     omega (arith, p .0 .inside, p .0 .right .within)
 
@@ -35,7 +35,7 @@ subtract-requires : tie.Need-subtract-requires Inv-loop μ-loop
 subtract-requires c κs =
     let p = c .before .before .before .before .before .before .before .before .before .pre in
     let l = c .before .before .before .before .before .before .loop .inv in
-    (p .0 .modulus, l .1 .below _, rw (c .before .inner-product .ensures) (mod-lt _ (omega (arith, p .0 .modulus .above-one))))
+    (p .0 .modulus, l .1 .below (c .before .before .before .before .before .before .loop .i - 1), rw (c .before .inner-product .ensures) (mod-lt _ (omega (arith, p .0 .modulus .above-one))))
 
 loop-again : tie.Need-loop-again Inv-loop μ-loop
 loop-again c =
@@ -59,7 +59,7 @@ divide-spec =
     Inv-loop
     μ-loop
     loop-holds
-    add-k
+    add-end
     (λ c κs. search needs)
     (λ c. omega arith)
     (λ c κs. search needs)

@@ -4,7 +4,8 @@ use native.Mathlib.Omega.{arith}
 use borrow.Author.Needs.{needs}
 use borrow.Author.Tests.{not-true, not-false}
 use Rattle.algebra.specs.Polynomial.{terms, limit}
-use Rattle.left.proofs.Expanding.{digits-long, lowest-no, reached-first, reached-last, reached-divisible, lent, returned}
+use Rattle.left.proofs.Pieces.{lent, returned}
+use Rattle.left.proofs.Expanding.{digits-long, lowest-no, reached-first, reached-last, reached-asked}
 use Rattle.left.proofs.expand.Statement.{statement}
 use Rattle.left.proofs.expand.Tie as tie
 
@@ -50,13 +51,13 @@ blocks-requires : tie.Need-blocks-requires
 blocks-requires c κs =
     let p = c .before .before .before .before .before .before .before .before .before .before .before .before .before .before .before .before .pre in
     let l = reached-first (digits-long (p .2) (p .1)) (c .before .before .before .before .before .before .before .before .before .before .before .before .digit .ensures) (not-false _ (c .before .before .before .before .before .before .before .before .before .if1 .left)) in
-    rw (lent (p .0 .above-zero) l) (reached-divisible (p .0 .above-zero) l (p .0), c .before .before .before .before .raise .ensures, c .before .before .before .before .before .before .before .before .at-once .ensures .0)
+    rw (lent _ _) (reached-asked (p .0 .above-zero) l (p .0), c .before .before .before .before .raise .ensures, c .before .before .before .before .before .before .before .before .at-once .ensures .0)
 
 returns-2 : tie.Need-returns-2
 returns-2 c =
     let p = c .before .before .before .before .before .before .before .before .before .before .before .before .before .before .before .before .before .before .before .pre in
     let l = reached-first (digits-long (p .2) (p .1)) (c .before .before .before .before .before .before .before .before .before .before .before .before .before .before .before .digit .ensures) (not-false _ (c .before .before .before .before .before .before .before .before .before .before .before .before .if1 .left)) in
-    rw (returned (p .0 .above-zero) l _) (reached-last (p .0 .above-zero) l (rw (lent (p .0 .above-zero) l) at (c .before .before .blocks2 .ensures)))
+    rw (returned _ _ _) (reached-last (p .0 .above-zero) l (rw (lent _ _) at (c .before .before .blocks2 .ensures)))
 
 pub expand-spec : {M : Type 1} → statement M
 unfolding terms limit

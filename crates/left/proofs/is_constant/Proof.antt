@@ -36,13 +36,13 @@ loop-holds : tie.Need-loop-holds Inv-loop μ-loop
 loop-holds c = (omega arith, λ k a b. absurd (omega arith))
 
 returns : tie.Need-returns Inv-loop μ-loop
-returns c = (λ e. absurd (true≢false (sym e)), λ e. (c .before .before .before .loop .i, c .before .before .before .loop .inv .0, c .if1 .taken))
+returns c = record { yes = λ e. absurd (true≢false (sym e)); no = λ e. (c .before .before .before .loop .i, c .before .before .before .loop .inv .0, c .if1 .taken) }
 
 loop-again : tie.Need-loop-again Inv-loop μ-loop
 loop-again c = (omega arith, flat-more (c .before .before .before .before .args .p .now) (c .if1 .left) (c .before .before .before .loop .inv .1))
 
 returns-2 : tie.Need-returns-2 Inv-loop μ-loop
-returns-2 c = (λ e. flat-all (c .before .before .args .p .now) (c .loop-test .left) (c .before .loop .inv .1), λ e. absurd (true≢false e))
+returns-2 c = record { yes = λ e. flat-all (c .before .before .args .p .now) (c .loop-test .left) (c .before .loop .inv .1); no = λ e. absurd (true≢false e) }
 
 pub is-constant-spec : {M : Type 1} → statement M
 is-constant-spec =

@@ -6,7 +6,7 @@ use lib.Seq.{length-take-le}
 use Rattle.algebra.specs.Polynomial.{terms, limit}
 use Rattle.polynomial.specs.Answers.{nothing}
 use Rattle.left.specs.Left.{none, found}
-use Rattle.left.proofs.Found.{asked-divisible, asked-long, digits-terms, digits-none, digits-found}
+use Rattle.left.proofs.Found.{asked-division, asked-long, digits-terms, digits-past, digits-none, digits-found}
 use Rattle.left.proofs.left_part.Statement.{statement}
 use Rattle.left.proofs.left_part.Tie as tie
 
@@ -17,7 +17,7 @@ slice-aggregate-expand c = sym (length-take-le _ _ (omega (arith, c .before .pre
 expand-requires : tie.Need-expand-requires
 expand-requires c κs =
     let p = c .before .before .pre in
-    (asked-divisible p, asked-long p, omega (arith, p .degrees .two-left))
+    (asked-division p, asked-long p, omega (arith, p .degrees .two-left))
 
 -- No. 7: a digit is no constant
 returns : tie.Need-returns
@@ -30,10 +30,10 @@ slice-aggregate-constants c = sym (digits-terms (c .before .before .before .befo
 constants-requires : tie.Need-constants-requires
 constants-requires c κs =
     let p = c .before .before .before .before .before .before .pre in
-    (digits-terms p (c .before .before .before .expand .ensures), omega (arith, p .degrees .two-right), omega (arith, p .degrees .product, p .degrees .within))
+    (digits-terms p (c .before .before .before .expand .ensures), omega (arith, p .degrees .two-right), omega (arith, p .degrees .product, p .degrees .within), digits-past p (c .before .before .before .expand .ensures))
 
 returns-2 : tie.Need-returns-2
-returns-2 c = found (digits-found (c .before .before .before .before .before .before .before .pre) _ (c .before .before .before .before .expand .ensures) (not-false _ (c .before .before .if1 .left)) (c .constants .ensures)) refl
+returns-2 c = found (digits-found (c .before .before .before .before .before .before .before .pre) (c .before .before .before .before .expand .ensures) (not-false _ (c .before .before .if1 .left)) (c .constants .ensures)) refl
 
 pub left-part-spec : {M : Type 1} → statement M
 unfolding terms limit
