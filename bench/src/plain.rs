@@ -241,7 +241,8 @@ fn digits<M: Modulus>(p: &mut [u32], h: &[u32], s: usize, m: M) -> bool {
 fn block<M: Modulus>(p: &mut [u32], h: &[u32], b: &[u32], k: usize, s: usize, m: M) -> bool {
     let w = k * s;
     divide(p, b, w, m);
-    digits(&mut p[..w], h, s, m)
+    let top = w - s;
+    is_constant(&p[top..w]) && digits(&mut p[..top + 1], h, s, m)
 }
 
 fn blocks<M: Modulus>(p: &mut [u32], h: &[u32], b: &[u32], k: usize, s: usize, m: M) -> bool {
@@ -256,19 +257,19 @@ fn blocks<M: Modulus>(p: &mut [u32], h: &[u32], b: &[u32], k: usize, s: usize, m
     digits(&mut p[at..], h, s, m)
 }
 
-/// h^k, from h itself, in place.
+/// b, which is h, becomes h^k.
 fn raise<M: Modulus>(b: &mut [u32], h: &[u32], k: usize, s: usize, m: M) {
     for i in 1..k {
         step(b, 0, h, s, (i + 1) * s, m);
     }
 }
 
-/// How many digits are taken at once where there are r.
+/// How many of the r digits after the first are taken at once.
 fn at_once(r: usize) -> usize {
     match r {
-        0..6 => 1,
-        6..14 => 2,
-        14..32 => 3,
+        0..5 => 1,
+        5..12 => 2,
+        12..32 => 3,
         _ => 5,
     }
 }

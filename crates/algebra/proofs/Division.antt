@@ -1,6 +1,7 @@
 -- Division by a monic polynomial modulo m: one quotient, one remainder, and what that says of left parts.
 --
 --   division-unique     c + h·u = d + h·v with c and d of degree below that of h: u = v and c = d
+--   after-short         the first k terms of g, after h, end where h^(k-1) does
 --   parts-after         p = c + h^k·q, c of a degree below that of h^k: p = g(h) exactly if c is g's first k terms, after h, and q
 --                       the others; repeated division rests on it, whatever h(0) is, and no inverse is needed
 --   left-part-unique    for a given monic h, whatever h(0), at most one g has f = g(h); no inverse is needed
@@ -53,11 +54,11 @@ module _ (m : ℕ) (pos : 0 < m) where
       spread : (c u : List ℕ) → ⟦ Z m pos ⟧ (plus c (times h u)) ≡ S._⊞_ (Z m pos) (⟦ Z m pos ⟧ c) (S._⊠_ (Z m pos) (⟦ Z m pos ⟧ h) (⟦ Z m pos ⟧ u))
       spread c u = eval-plus (Q m pos) c (times h u) _ ∙ ap (S._⊞_ (Z m pos) (⟦ Z m pos ⟧ c)) (eval-times (Q m pos) h u _)
 
-  -- k terms, after h, end below h^k
-  low : {s : ℕ} {h : List ℕ} → 0 < s → Monic m s h → (k : ℕ) (g : List ℕ) (i : ℕ) → k * s ≤ i → coef (after (take k g) h) i % m ≡ 0 % m
+  -- k terms, after h, end where h^(k-1) does
+  pub after-short : {s : ℕ} {h : List ℕ} → 0 < s → Monic m s h → (k : ℕ) (g : List ℕ) (i : ℕ) → k * s < i + s → coef (after (take k g) h) i % m ≡ 0 % m
   unfolding after
-  low sp mh zero g i l = refl
-  low {s} sp mh (suc k) g i l = after-end m pos (take (suc k) g) sp mh (λ (j : ℕ) (b : k < j). ap (λ (x : ℕ). x % m) (List·getD-eq-default (take (suc k) g) 0 (omega (arith, length-take (suc k) g)))) .1 i (omega arith)
+  after-short sp mh zero g i l = refl
+  after-short {s} sp mh (suc k) g i l = after-end m pos (take (suc k) g) sp mh (λ (j : ℕ) (b : k < j). ap (λ (x : ℕ). x % m) (List·getD-eq-default (take (suc k) g) 0 (omega (arith, length-take (suc k) g)))) .1 i (omega arith)
 
   -- p = c + b·q with b = h^k and c of a degree below that of b: p = g(h) exactly if c is g's first k terms, after h, and q the others
   pub parts-after : {s : ℕ} (k : ℕ) {p c b q h : List ℕ} → 0 < s → Monic m s h → Same m b (power h k) → ((i : ℕ) → k * s ≤ i → coef c i % m ≡ 0 % m)
@@ -68,7 +69,7 @@ module _ (m : ℕ) (pos : 0 < m) where
       parts = after-parts k g h ⨾ plus-same m pos (same-refl _) (times-same m pos (same-sym raised) (same-refl _))
 
       apart : Same m p (after g h) → Same m c (after (take k g) h) × Same m q (after (drop k g) h)
-      apart e = let (x, y) = division-unique (monic-same m pos (same-sym raised) (power-monic m pos mh k)) lc (low sp mh k g) (same-sym d ⨾ e ⨾ parts) in (y, x)
+      apart e = let (x, y) = division-unique (monic-same m pos (same-sym raised) (power-monic m pos mh k)) lc (λ i l. after-short sp mh k g i (omega arith)) (same-sym d ⨾ e ⨾ parts) in (y, x)
 
       together : Same m c (after (take k g) h) × Same m q (after (drop k g) h) → Same m p (after g h)
       together (x, y) = d ⨾ plus-same m pos x (times-same m pos (same-refl b) y) ⨾ same-sym parts

@@ -1,8 +1,9 @@
 -- Digits in powers of h, from the lowest on.
 --
 --   flat-digits                                  what is shorter than h is one digit
---   lowest-digits, lowest-digit                  a division by h^k and the k digits of its remainder; by h, and one digit
---   lowest-no                                    a digit that is no constant
+--   lowest-digits                                a division by h^k, and the k digits of its remainder
+--   top-flat, lowest-top                         whose highest is a constant, or none
+--   lowest-digit, lowest-no                      a division by h, and one digit; a digit that is no constant
 --   Reached m h s p₀ at p                        the digits of p₀ below place `at` are found, and above it p has the quotient
 --   reached-none, reached-first, reached-more    before the first digit, after it, and k digits further
 --   reached-no, reached-last                     and then one that is no constant, or all digits of the quotient
@@ -20,7 +21,7 @@ use lib.ListN.{length, take, drop, length-take, length-drop, length-append, take
 use lib.Seq.{getD-take, getD-drop, length-take-le, drop-at, drop-drop}
 use Rattle.algebra.specs.Polynomial.{coef, after, Same, Held}
 use Rattle.algebra.proofs.Polynomials.{_⨾_, same-refl, same-sym, zero-nothing, plus-same, plus-comm, plus-nothing, times-comm, times-nothing, after-same, constant-after}
-use Rattle.algebra.proofs.Division.{parts-after, left-part-unique}
+use Rattle.algebra.proofs.Division.{after-short, parts-after, left-part-unique}
 use Rattle.left.specs.Division.{DivisionAsked, Divided, Raised, ConstantIs, Begins, Lowest, Digits}
 use Rattle.polynomial.proofs.Below.{take-below, join-below}
 use Rattle.left.proofs.Pieces.{front, back}
@@ -83,14 +84,14 @@ flat-digits {m} {s} {h} {p} {t} d l flat = record { long = refl; below = d .belo
     none (suc i, b, n) g w = n (sym (N.mod-eq-of-lt (d .below (suc i))) ∙ apart g .0 w .0 .at (suc i) ∙ N.zero-mod m)
 
 -- a remainder may be divided again
-pub remainder-asked : {m s w : ℕ} {h b p q : List ℕ} → DivisionAsked m s h p → Divided m b w p q → 0 < w → w ≤ length p → DivisionAsked m s h (take w q)
-remainder-asked {m} {s} {w} {h} {b} {p} {q} d c above l =
-    let wide : length (take w q) ≡ w = length-take-le w q (rw (c .long) l) in
+pub remainder-asked : {m s w : ℕ} (v : ℕ) {h b p q : List ℕ} → DivisionAsked m s h p → Divided m b w p q → 0 < v → v ≤ length p → DivisionAsked m s h (take v q)
+remainder-asked {m} {s} {w} v {h} {b} {p} {q} d c above l =
+    let wide : length (take v q) ≡ v = length-take-le v q (rw (c .long) l) in
     record {
       modulus = d .modulus;
       right = d .right;
       above-zero = d .above-zero;
-      below = take-below (omega (arith, d .modulus .above-one)) w q (λ i _. c .below i);
+      below = take-below (omega (arith, d .modulus .above-one)) v q (λ i _. c .below i);
       some = rw wide above;
       inside = omega (arith, wide, d .inside);
     }
@@ -99,47 +100,85 @@ remainder-asked {m} {s} {w} {h} {b} {p} {q} d c above l =
 pub raised-asked : {m s k : ℕ} {h b p : List ℕ} → DivisionAsked m s h p → Raised m h s k b → 0 < k → DivisionAsked m (k * s) b p
 raised-asked {s = s} {k = k} d r l = record { modulus = d .modulus; right = r .held; above-zero = omega (arith, d .above-zero, N.mul-le-mul-right {m = 1} {n = k} s l); below = d .below; some = d .some; inside = d .inside }
 
--- k digits: the remainder by h^k has them
-pub lowest-digits : {m s w : ℕ} (k : ℕ) {h b p q r : List ℕ} {t : Bool} → DivisionAsked m s h p → Raised m h s k b → w ≡ k * s → w ≤ length p
-    → Divided m b w p q → Digits m h s (take w q) r t → Lowest m h s k p (r ++ drop w q) t
-lowest-digits {m} {s} {w} k {h} {b} {p} {q} {r} {t} d raised ew l divided digits =
-    record {
-      long = length-append r (drop w q) ∙ rw (wide, length-drop w q, divided .long) (omega arith);
-      below = join-below r (drop w q) (digits .below) (λ i. rw (getD-drop w q i 0) (divided .below (w + i)));
-      yes = λ e g. Iff·trans (apart g) (λ (x, y). (λ i b. begins e g x i b, rw (← ew, drop-at r (drop w q) w wide) y), λ (x, y). (digits .yes e (take k g) .1 (all g x), rw (← ew, drop-at r (drop w q) w wide) at y));
-      no = λ e g x. digits .no e (take k g) (apart g .0 x .0);
-    }
-  where
-    pos : 0 < m
-    pos = omega (arith, d .modulus .above-one)
+-- the division by h^k
+module _ {m s w : ℕ} (k : ℕ) {h b p q : List ℕ} (d : DivisionAsked m s h p) (raised : Raised m h s k b) (ew : w ≡ k * s) (l : w ≤ length p) (divided : Divided m b w p q) where
+  pos : 0 < m
+  pos = omega (arith, d .modulus .above-one)
 
-    wide : length r ≡ w
-    wide = digits .long ∙ length-take-le w q (rw (divided .long) l)
+  halves : (g : List ℕ) → Same m p (after g h) ↔ (Same m (take w q) (after (take k g) h) × Same m (drop w q) (after (drop k g) h))
+  halves = parts-after m pos k (d .above-zero) (d .right .monic) (raised .same)
+      (λ i c. ap (λ (x : ℕ). x % m) (List·getD-eq-default (take w q) 0 (omega (arith, length-take w q)))) (divided .whole)
 
-    apart : (g : List ℕ) → Same m p (after g h) ↔ (Same m (take w q) (after (take k g) h) × Same m (drop w q) (after (drop k g) h))
-    apart = parts-after m pos k (d .above-zero) (d .right .monic) (raised .same)
-        (λ i c. ap (λ (x : ℕ). x % m) (List·getD-eq-default (take w q) 0 (omega (arith, length-take w q)))) (divided .whole)
+  -- k digits: the remainder has them, in its lowest v places
+  pub lowest-digits : {v : ℕ} {r : List ℕ} {t : Bool} → v ≤ w → w < v + s → ((i : ℕ) → v ≤ i → i < w → coef q i ≡ 0)
+      → Digits m h s (take v q) r t → Lowest m h s k p (r ++ drop v q) t
+  lowest-digits {v} {r} {t} lv ls gap digits =
+      record {
+        long = length-append r (drop v q) ∙ rw (wide, length-drop v q, divided .long) (omega arith);
+        below = join-below r (drop v q) (digits .below) (λ i. rw (getD-drop v q i 0) (divided .below (v + i)));
+        yes = λ e g. Iff·trans (halves g) (λ (x, y). (λ i c. begins e g x i c, rw (← ew, rest) y), λ (x, y). (short ⨾ digits .yes e (take k g) .1 (all g x), rw (← ew, rest) at y));
+        no = λ e g x. digits .no e (take k g) (same-sym short ⨾ halves g .0 x .0);
+      }
+    where
+      wide : length r ≡ v
+      wide = digits .long ∙ length-take-le v q (rw (divided .long) (omega arith))
 
-    inside : (i : ℕ) → i < k → i * s < w
-    inside i c = rw ew (N.mul-lt-mul-of-pos-right c (d .above-zero))
+      -- what is above the remainder stays
+      rest : drop w (r ++ drop v q) ≡ drop w q
+      rest = let f : w ≡ v + (w - v) = omega arith in rw f (sym (drop-drop (w - v) v (r ++ drop v q)) ∙ ap (drop (w - v)) (drop-at r (drop v q) v wide) ∙ drop-drop (w - v) v q)
 
-    begins : t ≡ true → (g : List ℕ) → Same m (take w q) (after (take k g) h) → Begins m s k (r ++ drop w q) g
-    begins e g x i c = ap (λ (y : ℕ). y % m) (sym (getD-take k g i 0 c)) ∙ digits .yes e (take k g) .0 x i ∙ ap (λ (y : ℕ). y % m) (sym (front r (drop w q) wide (i * s) (inside i c)))
+      -- and above its lowest v places there is nothing
+      short : Same m (take w q) (take v q)
+      short = record { at = λ i. ap (λ (x : ℕ). x % m) (go i (decLt i v) (decLt i w)) }
+        where
+          go : (i : ℕ) → Dec (i < v) → Dec (i < w) → coef (take w q) i ≡ coef (take v q) i
+          go i (yes x) y = getD-take w q i 0 (omega arith) ∙ sym (getD-take v q i 0 x)
+          go i (no x) (yes y) = getD-take w q i 0 y ∙ gap i (omega arith) y ∙ sym (List·getD-eq-default (take v q) 0 (omega (arith, length-take v q)))
+          go i (no x) (no y) = List·getD-eq-default (take w q) 0 (omega (arith, length-take w q)) ∙ sym (List·getD-eq-default (take v q) 0 (omega (arith, length-take v q)))
 
-    all : (g : List ℕ) → Begins m s k (r ++ drop w q) g → (i : ℕ) → coef (take k g) i % m ≡ coef r (i * s) % m
-    all g x i = go (decLt i k)
+      inside : (i : ℕ) → i < k → i * s < v
+      inside i c = omega (arith, N.mul-le-mul-right {m = i + 1} {n = k} s (omega arith))
+
+      begins : t ≡ true → (g : List ℕ) → Same m (take w q) (after (take k g) h) → Begins m s k (r ++ drop v q) g
+      begins e g x i c = ap (λ (y : ℕ). y % m) (sym (getD-take k g i 0 c)) ∙ digits .yes e (take k g) .0 (same-sym short ⨾ x) i ∙ ap (λ (y : ℕ). y % m) (sym (front r (drop v q) wide (i * s) (inside i c)))
+
+      all : (g : List ℕ) → Begins m s k (r ++ drop v q) g → (i : ℕ) → coef (take k g) i % m ≡ coef r (i * s) % m
+      all g x i = go (decLt i k)
+        where
+          go : Dec (i < k) → coef (take k g) i % m ≡ coef r (i * s) % m
+          go (yes c) = ap (λ (y : ℕ). y % m) (getD-take k g i 0 c) ∙ x i c ∙ ap (λ (y : ℕ). y % m) (front r (drop v q) wide (i * s) (inside i c))
+          go (no c) = ap (λ (y : ℕ). y % m) (List·getD-eq-default (take k g) 0 (omega (arith, length-take k g))
+              ∙ sym (List·getD-eq-default r 0 (omega (arith, wide, N.mul-le-mul-right {m = k} {n = i} s (omega arith)))))
+
+  -- the remainder's highest digit, from place `top` on
+  module _ (top : ℕ) (et : top + s ≡ w) {t : Bool} (flat : ConstantIs (take (w - top) (drop top q)) t) where
+    place : (j : ℕ) → j < w - top → coef (take (w - top) (drop top q)) j ≡ coef q (top + j)
+    place j l = getD-take (w - top) (drop top q) j 0 l ∙ getD-drop top q j 0
+
+    -- is a constant: then the remainder ends there
+    pub top-flat : t ≡ true → (i : ℕ) → top + 1 ≤ i → i < w → coef q i ≡ 0
+    top-flat e i a b =
+        let f : top + (i - top) ≡ i = omega arith in
+        ap (coef q) (sym f) ∙ sym (place (i - top) (omega arith)) ∙ flat .yes e (i - top) (omega arith)
+
+    -- or is none
+    pub lowest-top : t ≡ false → Lowest m h s k p q false
+    lowest-top e = record { long = divided .long; below = divided .below; yes = λ f. absurd (false≢true f); no = λ _ g x. none (flat .no e) g (halves g .0 x .0) }
       where
-        go : Dec (i < k) → coef (take k g) i % m ≡ coef r (i * s) % m
-        go (yes c) = ap (λ (y : ℕ). y % m) (getD-take k g i 0 c) ∙ x i c ∙ ap (λ (y : ℕ). y % m) (front r (drop w q) wide (i * s) (inside i c))
-        go (no c) = ap (λ (y : ℕ). y % m) (List·getD-eq-default (take k g) 0 (omega (arith, length-take k g))
-            ∙ sym (List·getD-eq-default r 0 (omega (arith, wide, N.mul-le-mul-right {m = k} {n = i} s (omega arith)))))
+        none : (i : ℕ) × (0 < i) × ¬ (coef (take (w - top) (drop top q)) i ≡ 0) → (g : List ℕ) → Same m (take w q) (after (take k g) h) → ⊥
+        none (i, a, n) g x = go (decLt i (w - top))
+          where
+            go : Dec (i < w - top) → ⊥
+            go (yes b) = n (place i b ∙ sym (N.mod-eq-of-lt (divided .below (top + i))) ∙ ap (λ (y : ℕ). y % m) (sym (getD-take w q (top + i) 0 (omega arith))) ∙ x .at (top + i)
+                ∙ after-short m pos (d .above-zero) (d .right .monic) k g (top + i) (omega arith) ∙ N.zero-mod m)
+            go (no b) = n (List·getD-eq-default (take (w - top) (drop top q)) 0 (omega (arith, length-take (w - top) (drop top q))))
 
 -- one digit
 pub lowest-digit : {m s : ℕ} {h p q : List ℕ} {t : Bool} → DivisionAsked m s h p → s ≤ length p → Divided m h s p q
     → ConstantIs (take s q) t → Lowest m h s 1 p q t
 lowest-digit {m} {s} {h} {p} {q} {t} d l c flat = subst (λ (x : List ℕ). Lowest m h s 1 p x t) (take-append-drop s q)
-    (lowest-digits 1 d (raised-one (omega (arith, d .modulus .above-one)) (d .right)) (omega arith) l c
-    (flat-digits (remainder-asked d c (d .above-zero) l) (omega (arith, length-take s q)) flat))
+    (lowest-digits 1 d (raised-one (omega (arith, d .modulus .above-one)) (d .right)) (omega arith) l c (omega arith) (omega (arith, d .above-zero)) (λ (i : ℕ) (x : s ≤ i) (y : i < s). absurd (N.lt-irrefl i (N.le-trans y x)))
+    (flat-digits (remainder-asked s d c (d .above-zero) l) (omega (arith, length-take s q)) flat))
 
 -- the digits below place `at` are found, and what is above it is the quotient
 pub record Reached (m : ℕ) (h : List ℕ) (s : ℕ) (p₀ : List ℕ) (at : ℕ) (p : List ℕ) : Type 0 where

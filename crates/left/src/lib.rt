@@ -71,14 +71,18 @@ fn digits(p: &mut [u32], h: &[u32], s: usize, m: u64) -> bool
     is_constant(&p[at..])
 }
 
-// The lowest k digits of p at once: the remainder by b = h^k has them.
+// The lowest k digits of p at once: the remainder by b = h^k has them. If they are constants, it ends where h^(k-1) does.
 fn block(p: &mut [u32], h: &[u32], b: &[u32], k: usize, s: usize, m: u64) -> bool
     requires { ⌜ DivisionAsked m s (now h) (now p) × Raised m (now h) s k (now b) × (0 < k) × (k * s ≤ length (now p)) ⌝ }
     ensures { λ t. ⌜ Lowest m (now (h .entry)) s k (now (p .entry)) (now (p .exit)) t ⌝ }
 {
     let w = k * s;
     divide(p, b, w, m);
-    digits(&mut p[..w], h, s, m)
+    let top = w - s;
+    if !is_constant(&p[top..w]) {
+        return false;
+    }
+    digits(&mut p[..top + 1], h, s, m)
 }
 
 // All digits of p, k at once by b = h^k as long as there are more than k, and the others one by one.
@@ -113,10 +117,10 @@ fn at_once(r: usize) -> usize
     requires { ⌜ 0 < r ⌝ }
     ensures { λ k. ⌜ (0 < k) × (k ≤ r) ⌝ }
 {
-    if r < 6 {
+    if r < 5 {
         return 1;
     }
-    if r < 14 {
+    if r < 12 {
         return 2;
     }
     if r < 32 {
