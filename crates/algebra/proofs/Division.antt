@@ -1,6 +1,9 @@
 -- Division by a monic polynomial modulo m: one quotient, one remainder, and what that says of left parts.
 --
 --   division-unique     c + h·u = d + h·v with c and d of degree below that of h: u = v and c = d
+--   expansion cs h      the polynomial with the digits cs in powers of h
+--   digits-unique       two lists of as many digits, of degrees below that of h, that give the same polynomial are the same digits;
+--                       h(0) may be anything, and no inverse is needed
 --   after-short         the first k terms of g, after h, end where h^(k-1) does
 --   parts-after         p = c + h^k·q, c of a degree below that of h^k: p = g(h) exactly if c is g's first k terms, after h, and q
 --                       the others; repeated division rests on it, whatever h(0) is, and no inverse is needed
@@ -11,7 +14,7 @@ use mathlib.Core.List.{List, [], _∷_}
 use Prim.Native.Nat.{ℕ, zero, suc, _+_, _*_, _%_, _≤_, _<_}
 use native.Mathlib.Omega.{arith}
 use native.Mathlib.Decide.{decLt}
-use lib.ListN.{length, take, drop, length-take, List·getD-eq-default}
+use lib.ListN.{length, getD, take, drop, length-take, List·getD-eq-default}
 use Rattle.algebra.specs.Polynomial.{coef, plus, times, power, after, Same, Monic}
 use Rattle.algebra.proofs.Ring.{Ring, ring}
 use Rattle.algebra.proofs.Series as S
@@ -27,6 +30,11 @@ module _ (R : Ring) where
 
   shared-factor : (c t u v h : El) → c ⊕ h ⊗ (t ⊕ u ⊗ v) ≡ c ⊕ h ⊗ t ⊕ h ⊗ u ⊗ v
   shared-factor c t u v h = simp ring
+
+-- c_0 + c_1·h + c_2·h^2 + .., for the digits c_0, c_1, ..
+unfoldable pub expansion : List (List ℕ) → List ℕ → List ℕ
+expansion [] h = []
+expansion (c ∷ cs) h = plus c (times h (expansion cs h))
 
 module _ (m : ℕ) (pos : 0 < m) where
   regroup : (c t u v h : List ℕ) → Same m (plus c (times h (plus t (times u v)))) (plus (plus c (times h t)) (times (times h u) v))
@@ -53,6 +61,17 @@ module _ (m : ℕ) (pos : 0 < m) where
 
       spread : (c u : List ℕ) → ⟦ Z m pos ⟧ (plus c (times h u)) ≡ S._⊞_ (Z m pos) (⟦ Z m pos ⟧ c) (S._⊠_ (Z m pos) (⟦ Z m pos ⟧ h) (⟦ Z m pos ⟧ u))
       spread c u = eval-plus (Q m pos) c (times h u) _ ∙ ap (S._⊞_ (Z m pos) (⟦ Z m pos ⟧ c)) (eval-times (Q m pos) h u _)
+
+  -- digits of a degree below that of h, whatever h(0) is
+  pub digits-unique : {s : ℕ} {h : List ℕ} → Monic m s h → (cs ds : List (List ℕ)) → length cs ≡ length ds
+      → ((i j : ℕ) → s ≤ j → coef (getD cs i []) j % m ≡ 0 % m) → ((i j : ℕ) → s ≤ j → coef (getD ds i []) j % m ≡ 0 % m)
+      → Same m (expansion cs h) (expansion ds h) → (i : ℕ) → Same m (getD cs i []) (getD ds i [])
+  unfolding expansion
+  digits-unique mh [] [] l cl dl e i = same-refl []
+  digits-unique mh [] (d ∷ ds) l cl dl e i = absurd (omega arith)
+  digits-unique mh (c ∷ cs) [] l cl dl e i = absurd (omega arith)
+  digits-unique mh (c ∷ cs) (d ∷ ds) l cl dl e zero = division-unique mh (cl 0) (dl 0) e .1
+  digits-unique mh (c ∷ cs) (d ∷ ds) l cl dl e (suc i) = digits-unique mh cs ds (omega arith) (λ j. cl (suc j)) (λ j. dl (suc j)) (division-unique mh (cl 0) (dl 0) e .0) i
 
   -- k terms, after h, end where h^(k-1) does
   pub after-short : {s : ℕ} {h : List ℕ} → 0 < s → Monic m s h → (k : ℕ) (g : List ℕ) (i : ℕ) → k * s < i + s → coef (after (take k g) h) i % m ≡ 0 % m

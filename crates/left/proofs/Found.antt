@@ -1,7 +1,7 @@
 -- From the digits to the left part.
 --
 --   constant-place                     where a digit's constant lies
---   asked-division, asked-long        f's places may be divided by h
+--   asked-division, asked-long         f's places may be divided by h
 --   digits-terms, digits-past          with what lies above x^n the list has all places of a polynomial, and no digit above the r-th
 --   digits-none                        a digit that is no constant refutes every left part
 --   digits-found                       where all are constants, they are the left part
