@@ -1,21 +1,31 @@
 -- Chains: uniqueness, demand 2 and demand 3.
 --
+--   sum-within                            the degrees of a pair add up to at most n
+--   splits, split-half                    a pair is a split; its right degree is at most n/2
+--   unsplit-at, split-at                  that f does not split, said by right degrees, and back
+--   pairs-equal                           two pairs with one right degree are equal
 --   chain-unique                          f has one chain, and it costs one number of tries
 --   chain-composed                        the parts compose back to f
---   chain-part, chain-normal              what each part is; all but the leftmost have constant 0
+--   right-unsplit                         the right part at the first right degree does not split
 --   chain-unsplit                         no part splits further
---   chain-product, chain-length           the degrees multiply to n; so many parts as 2^parts <= n allows
+--   chain-normal                          all but the leftmost have constant 0
+--   part-of, chain-part                   what each part is
+--   composed-none, composed-more          what parts compose to is monic: x if there is none, and one part more
+--   parts-length, parts-price             2^parts, and the price, are at most what the degrees multiply to
+--   chain-product                         the degrees multiply to n
+--   chain-length, chain-price             so many parts as 2^parts <= n allows; the price is at most n
 --   price-parts                           the price and the number of parts add up to the sum of the degrees
 --   carried-unique                        carrying a change gives one answer
+--   degrees-length, price-degrees         there is a degree for each part; the degrees tell the price
 --   chain-changed, chains-changed         the chain of the changed f is the carried one, with the same degrees, tries and price
 use mathlib.Core.Path.{_≡_, refl, sym, ap, ap₂, subst, _∙_}
 use mathlib.Core.List.{List, [], _∷_}
-use Prim.Native.Nat.{ℕ, zero, suc, _+_, _*_, _^_, _≤_, _<_}
+use Prim.Native.Nat.{ℕ, zero, suc, _+_, _*_, _^_, _%_, _/_, _≤_, _<_}
 use native.Mathlib.Nat as N
 use native.Mathlib.Omega.{arith}
 use native.Mathlib.Decide.{decLt}
 use lib.ListN.{length}
-use Rattle.algebra.specs.Polynomial.{value, degree, Same, Monic, Reduced, terms}
+use Rattle.algebra.specs.Polynomial.{coef, after, value, degree, Same, Monic, Reduced, terms}
 use Rattle.algebra.specs.Number.{sum, Invertible}
 use Rattle.algebra.specs.Pair.{Pair, Normal, NormalPair, NoPair, SplitsRight, Unsplit}
 use Rattle.algebra.specs.Change.{Changed, ChangedRight}
@@ -28,8 +38,24 @@ use Rattle.algebra.proofs.Factors.{invertible-left, invertible-pow}
 use Rattle.algebra.proofs.Changes.{changed-unique, changed-right-unique, changed-monic, splits-unchanged}
 use Rattle.algebra.proofs.Pairs.{pair-unique, changed-pair-exists}
 
-splits : {m n r s : ℕ} {f g h : List ℕ} → 2 ≤ r → 2 ≤ s → r * s ≡ n → Pair m f r s g h → SplitsRight m n f s
+-- two numbers of 2 or more multiply to no less than they add up to
+pub sum-within : {r s n : ℕ} → 2 ≤ r → 2 ≤ s → r * s ≡ n → r + s ≤ n
+sum-within {r} {s} a b e = omega (arith, e, N.mul-le-mul-left r b, N.mul-le-mul-right s a)
+
+pub splits : {m n r s : ℕ} {f g h : List ℕ} → 2 ≤ r → 2 ≤ s → r * s ≡ n → Pair m f r s g h → SplitsRight m n f s
 splits {r = r} {g = g} {h = h} a b e p = record { r = r; two-left = a; two-right = b; degrees = e; g = g; h = h; pair = p }
+
+-- a right degree is at most n/2
+pub split-half : {m n s : ℕ} {f : List ℕ} → SplitsRight m n f s → s ≤ n / 2
+split-half {s = s} w = omega (arith, w .degrees, N.mul-le-mul-right s (w .two-left))
+
+module _ {m n : ℕ} {f : List ℕ} (two : 2 ≤ m) (red : Reduced m f) (mon : Monic m n f) where
+  -- f does not split
+  pub unsplit-at : ((s : ℕ) → SplitsRight m n f s → ⊥) → Unsplit m f
+  unsplit-at none = record { none = λ r s a b e g h p. none s (splits a b (e ∙ degree-monic two red mon) p) }
+
+  pub split-at : Unsplit m f → (s : ℕ) → SplitsRight m n f s → ⊥
+  split-at u s w = u .none (w .r) s (w .two-left) (w .two-right) (w .degrees ∙ sym (degree-monic two red mon)) (w .g) (w .h) (w .pair)
 
 -- the first right degree is one
 first-one : {m n s s′ : ℕ} {f : List ℕ} → SplitsRight m n f s → ((d : ℕ) → d < s → SplitsRight m n f d → ⊥)
@@ -42,19 +68,24 @@ first-one {m} {n} {s} {s′} {f} a p b q = go (decLt s s′) (decLt s′ s)
     go (no l) (no k) = omega arith
 
 module _ {m : ℕ} (pos : 0 < m) where
+  -- two pairs with one right degree are equal
+  pub pairs-equal : {n r s r′ s′ : ℕ} {f g h g′ h′ : List ℕ} → Invertible m n → 2 ≤ r → 2 ≤ s → r * s ≡ n → r′ * s′ ≡ n → s′ ≡ s
+      → NormalPair m f r s g h → NormalPair m f r′ s′ g′ h′ → (r′ ≡ r) × (g′ ≡ g) × (h′ ≡ h)
+  pairs-equal {n} {r} {s} {r′} {s′} {f} {g} {h} {g′} {h′} i a b e e′ ss p p′ =
+      let (x, y) = pair-unique pos (omega arith) (omega arith) (invertible-left s i e) (subst (λ (k : ℕ). NormalPair m f k s g′ h′) rr (subst (λ (k : ℕ). NormalPair m f r′ k g′ h′) ss p′)) p in
+      (rr, x, y)
+    where
+      rr : r′ ≡ r
+      rr = N.eq-of-mul-eq-mul-right s (omega arith) r′ r (ap (λ (k : ℕ). r′ * k) (sym ss) ∙ e′ ∙ sym e)
+
   -- two first steps of one f are equal
   step-one : {n r s r′ s′ : ℕ} {f g h g′ h′ : List ℕ} → Invertible m n → 2 ≤ r → 2 ≤ s → r * s ≡ n → 2 ≤ r′ → 2 ≤ s′ → r′ * s′ ≡ n
       → ((d : ℕ) → d < s → SplitsRight m n f d → ⊥) → ((d : ℕ) → d < s′ → SplitsRight m n f d → ⊥)
       → NormalPair m f r s g h → NormalPair m f r′ s′ g′ h′ → (r′ ≡ r) × (s′ ≡ s) × (g′ ≡ g) × (h′ ≡ h)
-  step-one {n} {r} {s} {r′} {s′} {f} {g} {h} {g′} {h′} i a b e a′ b′ e′ first first′ p p′ =
-      let (x, y) = pair-unique pos (omega arith) (omega arith) (invertible-left s i e) (subst (λ (k : ℕ). NormalPair m f k s g′ h′) rr (subst (λ (k : ℕ). NormalPair m f r′ k g′ h′) ss p′)) p in
+  step-one i a b e a′ b′ e′ first first′ p p′ =
+      let ss = first-one (splits a′ b′ e′ (p′ .pair)) first′ (splits a b e (p .pair)) first in
+      let (rr, x, y) = pairs-equal i a b e e′ ss p p′ in
       (rr, ss, x, y)
-    where
-      ss : s′ ≡ s
-      ss = first-one (splits a′ b′ e′ (p′ .pair)) first′ (splits a b e (p .pair)) first
-
-      rr : r′ ≡ r
-      rr = N.eq-of-mul-eq-mul-right s (omega arith) r′ r (ap (λ (k : ℕ). r′ * k) (sym ss) ∙ e′ ∙ sym e)
 
   -- f has one chain, and it costs one number of tries
   pub chain-unique : {n t t′ : ℕ} {f : List ℕ} {parts parts′ : List (List ℕ)} → Invertible m n → Chain m n f parts t → Chain m n f parts′ t′ → (parts ≡ parts′) × (t ≡ t′)
@@ -84,7 +115,7 @@ chain-product two (whole {n = n} a b none) = N.mul-one _ ∙ degree-monic two b 
 chain-product two (step {r = r} {s = s} a b e first p k) = ap₂ _*_ (degree-monic two (p .reduced-right) (p .pair .right)) (chain-product two k) ∙ N.mul-comm s r ∙ e
 
 -- the right part at the first right degree does not split
-right-unsplit : {m n r s : ℕ} {f g h : List ℕ} → 2 ≤ m → 2 ≤ r → 2 ≤ s → r * s ≡ n → ((d : ℕ) → d < s → SplitsRight m n f d → ⊥) → NormalPair m f r s g h → Unsplit m h
+pub right-unsplit : {m n r s : ℕ} {f g h : List ℕ} → 2 ≤ m → 2 ≤ r → 2 ≤ s → r * s ≡ n → ((d : ℕ) → d < s → SplitsRight m n f d → ⊥) → NormalPair m f r s g h → Unsplit m h
 right-unsplit {m} {n} {r} {s} {f} {g} {h} two a b e first p = record { none = λ r′ s′ c d e′ u w q. fine r′ s′ c d (e′ ∙ degree-monic two (p .reduced-right) (p .pair .right)) u w q }
   where
     pos : 0 < m
@@ -108,7 +139,7 @@ right-unsplit {m} {n} {r} {s} {f} {g} {h} two a b e first p = record { none = λ
 
 -- no part splits further
 pub chain-unsplit : {m n t : ℕ} {f : List ℕ} {parts : List (List ℕ)} → 2 ≤ m → Chain m n f parts t → (i : ℕ) → i < length parts → Unsplit m (part parts i)
-chain-unsplit {m} two (whole {n = n} {f = f} a b none) zero l = record { none = λ r s c d e g h p. none s (splits c d (e ∙ degree-monic two b a) p) }
+chain-unsplit two (whole a b none) zero l = unsplit-at two b a none
 chain-unsplit two (whole a b none) (suc i) l = absurd (N.not-suc-le-zero (N.le-of-suc-le-suc l))
 chain-unsplit two (step a b e first p k) zero l = right-unsplit two a b e first p
 chain-unsplit two (step a b e first p k) (suc i) l = chain-unsplit two k i (N.le-of-suc-le-suc l)
@@ -119,7 +150,8 @@ chain-normal (whole a b none) i l = absurd (N.not-suc-le-zero (N.le-of-suc-le-su
 chain-normal (step a b e first p k) zero l = p .normal
 chain-normal (step a b e first p k) (suc i) l = chain-normal k i (N.le-of-suc-le-suc l)
 
-part-of : {m n : ℕ} {p : List ℕ} → 2 ≤ m → 2 ≤ n → Monic m n p → Reduced m p → Part m p
+-- reduced, monic and of a degree of 2 or more
+pub part-of : {m n : ℕ} {p : List ℕ} → 2 ≤ m → 2 ≤ n → Monic m n p → Reduced m p → Part m p
 part-of {m} {n} {p} two tn mon red = let e = degree-monic two red mon in record { reduced = red; monic = subst (λ (k : ℕ). Monic m k p) (sym e) mon; two = rw e tn }
 
 -- every part is reduced, and monic of a degree of 2 or more
@@ -129,10 +161,51 @@ chain-part two tn (whole a b none) (suc i) l = absurd (N.not-suc-le-zero (N.le-o
 chain-part two tn (step a b e first p k) zero l = part-of two b (p .pair .right) (p .reduced-right)
 chain-part two tn (step a b e first p k) (suc i) l = chain-part two a k i (N.le-of-suc-le-suc l)
 
--- so many parts of degree 2 or more fit under n
-pub chain-length : {m n t : ℕ} {f : List ℕ} {parts : List (List ℕ)} → 2 ≤ n → Chain m n f parts t → 2 ^ length parts ≤ n
-chain-length two (whole a b none) = two
-chain-length two (step {r = r} {s = s} {parts = parts} a b e first p k) = rw (N.pow-succ' 2 (length parts), ← e) (omega (arith, N.mul-le-mul (chain-length a k) b))
+module _ {m : ℕ} (pos : 0 < m) where
+  -- no part composes to x
+  pub composed-none : Monic m 1 (composed [])
+  unfolding composed
+  composed-none = record { top = refl; above = go }
+    where
+      go : (i : ℕ) → 1 < i → coef (0 ∷ 1 ∷ []) i % m ≡ 0 % m
+      go zero l = refl
+      go (suc zero) l = absurd (omega arith)
+      go (suc (suc i)) l = refl
+
+  -- and one part more multiplies the degree
+  pub composed-more : {k : ℕ} (h : List ℕ) (parts : List (List ℕ)) → Part m h → Monic m k (composed parts) → Monic m (degree h * k) (composed (h ∷ parts))
+  unfolding composed
+  composed-more {k} h parts p mon = subst (λ (j : ℕ). Monic m j (after (composed parts) h)) (N.mul-comm k (degree h)) (after-monic m pos (omega (arith, p .two)) mon (p .monic))
+
+-- each of them is a part
+abbrev pub EachPart : ℕ → List (List ℕ) → Type 0
+EachPart m parts = (i : ℕ) → i < length parts → Part m (part parts i)
+
+-- so many parts of degree 2 or more fit under what their degrees multiply to
+pub parts-length : {m : ℕ} (parts : List (List ℕ)) → EachPart m parts → 2 ^ length parts ≤ product (degrees parts)
+unfolding product degrees
+parts-length [] p = omega arith
+parts-length (h ∷ parts) p = rw (N.pow-succ' 2 (length parts)) (N.mul-le-mul (p 0 (omega arith) .two) (parts-length parts (λ i l. p (suc i) (omega arith))))
+
+one-less : (d : ℕ) {k : ℕ} → 1 ≤ d → 1 ≤ k → d + k ≤ d * k + 1
+one-less zero a b = absurd (omega arith)
+one-less (suc d) a b = omega (arith, N.mul-le-mul-left d b)
+
+-- and they cost no more
+pub parts-price : {m : ℕ} (parts : List (List ℕ)) → EachPart m parts → price parts ≤ product (degrees parts)
+unfolding product degrees price cost
+parts-price [] p = omega arith
+parts-price {m} (h ∷ parts) p =
+    let others : EachPart m parts = λ i l. p (suc i) (omega arith) in
+    let some : 1 ≤ product (degrees parts) = N.le-trans (N.pow-le-pow-right {n = 2} (omega arith) {i = 0} {j = length parts} (omega arith)) (parts-length parts others) in
+    omega (arith, p 0 (omega arith) .two, parts-price parts others, one-less (degree h) (omega (arith, p 0 (omega arith) .two)) some)
+
+-- so a chain has so many parts as 2^parts <= n allows, and its price is at most n
+pub chain-length : {m n t : ℕ} {f : List ℕ} {parts : List (List ℕ)} → 2 ≤ m → 2 ≤ n → Chain m n f parts t → 2 ^ length parts ≤ n
+chain-length {parts = parts} two tn k = rw (← chain-product two k) (parts-length parts (chain-part two tn k))
+
+pub chain-price : {m n t : ℕ} {f : List ℕ} {parts : List (List ℕ)} → 2 ≤ m → 2 ≤ n → Chain m n f parts t → price parts ≤ n
+chain-price {parts = parts} two tn k = rw (← chain-product two k) (parts-price parts (chain-part two tn k))
 
 carried-some : {m a b : ℕ} {y : List (List ℕ)} → Carried m a b [] y → ⊥
 carried-some c = elim c [ ]
@@ -154,8 +227,14 @@ unfolding price cost
 price-parts [] p = sym (sum-none _)
 price-parts (h ∷ parts) p = omega (arith, p 0 (omega arith) .two, price-parts parts (λ i l. p (suc i) (omega arith)), sum-first (length parts) (λ i. degree (part (h ∷ parts) i)))
 
+-- a degree for each part
+pub degrees-length : (parts : List (List ℕ)) → length (degrees parts) ≡ length parts
+unfolding degrees
+degrees-length [] = refl
+degrees-length (p ∷ parts) = ap suc (degrees-length parts)
+
 -- the price is told by the degrees
-price-degrees : (x y : List (List ℕ)) → degrees x ≡ degrees y → price x ≡ price y
+pub price-degrees : (x y : List (List ℕ)) → degrees x ≡ degrees y → price x ≡ price y
 unfolding degrees price cost
 price-degrees [] [] e = refl
 price-degrees [] (q ∷ y) e = cc e

@@ -23,3 +23,8 @@ pub mod Pairs
 pub mod ForcedPair
 pub mod RightPart
 pub mod Chains
+pub mod Lists
+pub mod Complete
+pub mod Every
+pub mod Few
+pub mod EveryChanged

@@ -3,3 +3,4 @@ pub mod Polynomial
 pub mod Pair
 pub mod Change
 pub mod Chain
+pub mod Every

@@ -102,7 +102,7 @@ chain-complete {m} {f} {xs} {ys} {x} long (of.chained {parts = parts} {t = t} l 
     let acc = accepted-one long e in
     let two = accepted-above acc in
     let is-part = C.chain-part two (acc .two) k in
-    let most = parts-within (acc .two) (degree-fits acc) k in
+    let most = parts-within two (acc .two) (degree-fits acc) k in
     let fills : EachFills parts = λ i l. part-fills two (is-part i l) in
     let count = ap (λ (x : Chained). x .parts) p in (
       parts,
@@ -134,12 +134,6 @@ pub record Carries (m a b : ℕ) (x x′ : Chained) (parts parts′ : List (List
   pub same-tries : x′ .tries ≡ x .tries
   pub same-price : x′ .price ≡ x .price
 
--- a degree for each part
-degrees-length : (parts : List (List ℕ)) → length (degrees parts) ≡ length parts
-unfolding degrees
-degrees-length [] = refl
-degrees-length (p ∷ parts) = ap suc (degrees-length parts)
-
 module _ {m a b : ℕ} {f f′ xs ys xs′ ys′ : List ℕ} {x x′ : Chained} (long : length f ≡ terms) (unit : Coprime a m) (changed : Changed m (degree f) a b f f′)
     (k : ChainOf m f xs ys x) (k′ : ChainOf m f′ xs′ ys′ x′) where
   -- demand 3 where both are answered: the two chains, and the change carried from one to the other
@@ -161,7 +155,7 @@ module _ {m a b : ℕ} {f f′ xs ys xs′ ys′ : List ℕ} {x x′ : Chained} 
         record {
           carried = car;
           same-degrees = d;
-          same-count = c′ .count ∙ sym (degrees-length parts′) ∙ ap length d ∙ degrees-length parts ∙ sym (c .count);
+          same-count = c′ .count ∙ sym (C.degrees-length parts′) ∙ ap length d ∙ C.degrees-length parts ∙ sym (c .count);
           same-tries = t;
           same-price = c′ .cost ∙ p ∙ sym (c .cost);
         },

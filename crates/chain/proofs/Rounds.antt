@@ -1,12 +1,13 @@
 -- The round over the right degrees: what holds of those that were passed.
 --
 --   tested-few                       at most as many tries as right degrees
+--   split-divides, split-pair        the right degree of a pair divides n, and its left degree is n/s
+--   half-degrees                     a divisor up to n/2 is the right degree of a pair
 --   Passed m n f s t                 f splits at no right degree below s, and t of those were tested
 --   passed-none, passed-few          no right degree is below 2; there are fewer tries than s
 --   passed-over, passed-missed       one that does not divide n; one at which there is no pair
 --   passed-hit                       one at which there is a pair: the first split
 --   passed-all                       all up to n/2: there is no split
---   half-degrees                     a divisor up to n/2 is the right degree of a pair
 --   left-coprime                     a left degree shares no factor with m, as n does not
 --   hit, miss                        what the answer to a split says
 use mathlib.Core.Path.{_≡_, refl, sym, ap, subst, _∙_}
@@ -21,6 +22,7 @@ use Rattle.algebra.specs.Number.{Coprime}
 use Rattle.algebra.specs.Polynomial.{limit}
 use Rattle.algebra.specs.Pair.{Pair, NormalPair, NoPair, SplitsRight}
 use Rattle.algebra.specs.Chain.{divides, tested}
+use Rattle.algebra.proofs.Chains.{split-half}
 use Rattle.algebra.proofs.Factors.{coprime-invertible, invertible-coprime, invertible-left}
 use Rattle.polynomial.specs.Degrees.{Degrees}
 use Rattle.refusal.specs.Refusal.{is-refused}
@@ -62,6 +64,18 @@ tested-few n zero = omega arith
 tested-few n (suc zero) = omega arith
 tested-few n (suc (suc s)) = omega (arith, tested-few n (suc s), divides-few (suc (suc s)) n)
 
+-- a right degree at which f splits divides n
+pub split-divides : {m n s : ℕ} {f : List ℕ} → SplitsRight m n f s → n % s ≡ 0
+split-divides {s = s} w = ap (λ (x : ℕ). x % s) (sym (w .degrees)) ∙ N.mul-mod-left (w .r) s
+
+-- and the left degree there is n/s
+pub split-pair : {m n s : ℕ} {f : List ℕ} (w : SplitsRight m n f s) → Pair m f (n / s) s (w .g) (w .h)
+split-pair {m} {s = s} {f = f} w = subst (λ (r : ℕ). Pair m f r s (w .g) (w .h)) (sym (N.mul-div-cancel (w .r) (omega (arith, w .two-right))) ∙ ap (λ (x : ℕ). x / s) (w .degrees)) (w .pair)
+
+-- a divisor from 2 to n/2 is the right degree of a pair
+pub half-degrees : {n s : ℕ} → 2 ≤ s → n % s ≡ 0 → s ≤ n / 2 → n ≤ limit → Degrees n (n / s) s
+half-degrees {n} {s} b e l k = record { product = omega (arith, N.div-add-mod' n s, e); within = k; two-left = N.le-div-iff-mul-le {k = s} {x = 2} {y = n} (omega arith) .1 (omega arith); two-right = b }
+
 -- f splits at no right degree below s, and t of those were tested
 pub record Passed (m n : ℕ) (f : List ℕ) (s t : ℕ) : Type 0 where
   pub two : 2 ≤ s
@@ -73,9 +87,6 @@ unfolding tested
 passed-none m n f = record { two = omega arith; none = λ d l w. omega (arith, w .two-right); tries = refl }
 
 module _ {m n s t : ℕ} {f : List ℕ} (p : Passed m n f s t) where
-  positive : 0 < s
-  positive = omega (arith, p .two)
-
   -- s counts if it divides n
   counted : tested n s ≡ t + divides s n
   counted = omega (arith, p .tries, tested-at n s (p .two))
@@ -93,18 +104,11 @@ module _ {m n s t : ℕ} {f : List ℕ} (p : Passed m n f s t) where
 
   -- a right degree of a pair divides n
   pub passed-over : (n % s ≡ 0 → ⊥) → Passed m n f (s + 1) t
-  passed-over h = passed-more (λ w. h (ap (λ (x : ℕ). x % s) (sym (w .degrees)) ∙ N.mul-mod-left (w .r) s)) (omega (arith, divides-no s n h))
+  passed-over h = passed-more (λ w. h (split-divides w)) (omega (arith, divides-no s n h))
 
   -- the pair at a right degree s has the left degree n/s
   pub passed-missed : n % s ≡ 0 → NoPair m f (n / s) s → Passed m n f (s + 1) (t + 1)
-  passed-missed h none = passed-more (λ w. none (w .g) (w .h) (subst (λ (r : ℕ). Pair m f r s (w .g) (w .h)) (left w) (w .pair))) (omega (arith, divides-yes s n h))
-    where
-      left : (w : SplitsRight m n f s) → w .r ≡ n / s
-      left w = sym (N.mul-div-cancel (w .r) positive) ∙ ap (λ (x : ℕ). x / s) (w .degrees)
-
-  -- a divisor up to n/2 is the right degree of a pair
-  pub half-degrees : n % s ≡ 0 → s ≤ n / 2 → n ≤ limit → Degrees n (n / s) s
-  half-degrees h l k = record { product = omega (arith, N.div-add-mod' n s); within = k; two-left = N.le-div-iff-mul-le positive .1 (omega arith); two-right = p .two }
+  passed-missed h none = passed-more (λ w. none (w .g) (w .h) (split-pair w)) (omega (arith, divides-yes s n h))
 
   -- the first right degree at which f splits
   pub passed-hit : {g h : List ℕ} → n % s ≡ 0 → Degrees n (n / s) s → NormalPair m f (n / s) s g h → Searched m n f true s (t + 1) g h
@@ -115,11 +119,8 @@ module _ {m n s t : ℕ} {f : List ℕ} (p : Passed m n f s t) where
 
   -- a right degree of a pair is at most n/2
   pub passed-all : {d : ℕ} {g h : List ℕ} → n / 2 < s → s ≤ n / 2 + 1 → Searched m n f false d t g h
-  passed-all a b = record { yes = λ z. absurd (false≢true z); no = λ z. record { none = λ d w. p .none d (omega (arith, half d w)) w; tries = p .tries ∙ ap (tested n) last } }
+  passed-all a b = record { yes = λ z. absurd (false≢true z); no = λ z. record { none = λ d w. p .none d (omega (arith, split-half w)) w; tries = p .tries ∙ ap (tested n) last } }
     where
-      half : (d : ℕ) → SplitsRight m n f d → d ≤ n / 2
-      half d w = omega (arith, w .degrees, N.mul-le-mul-right d (w .two-left))
-
       last : s - 1 ≡ n / 2
       last = omega arith
 

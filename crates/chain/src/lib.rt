@@ -25,16 +25,16 @@ pub struct Chained {
 }
 
 // What a round over the right degrees finds: the first split, and the tries.
-struct Round {
-    found: bool,
-    at: usize,
-    tries: usize,
-    left: Coefficients,
-    right: Coefficients,
+pub struct Round {
+    pub found: bool,
+    pub at: usize,
+    pub tries: usize,
+    pub left: Coefficients,
+    pub right: Coefficients,
 }
 
 // The round: each right degree from 2 to n / 2 that divides n, until f splits.
-fn first_split(f: Coefficients, n: usize, table: &[u64; ENTRIES], m: u64) -> Round
+pub fn first_split(f: Coefficients, n: usize, table: &[u64; ENTRIES], m: u64) -> Round
     requires { ⌜ ChainAsked m n f (now table) ⌝ }
     ensures { λ a. ⌜ Searched m n f (a .found) (a .at) (a .tries) (a .left) (a .right) ⌝ }
 {
@@ -76,7 +76,7 @@ struct Counted {
 }
 
 // The Price rule: what a monic polynomial of degree n costs.
-fn cost(n: usize) -> usize
+pub fn cost(n: usize) -> usize
     requires { ⌜ 1 ≤ n ⌝ }
     ensures { λ c. ⌜ ((p : List ℕ) → degree p ≡ n → c ≡ cost-of p) ⌝ }
 {
@@ -125,7 +125,7 @@ fn unchained(outcome: Outcome) -> Chained
 }
 
 // Whether n and m share a factor above 1.
-fn shares(n: usize, m: u64) -> bool
+pub fn shares(n: usize, m: u64) -> bool
     requires { ⌜ Modulus m ⌝ }
     ensures { λ b. ⌜ Shares n m b ⌝ }
 {

@@ -9,6 +9,8 @@
 --   face-combine             desk_combine
 --   face-undo                desk_undo
 --   face-chain               desk_chain
+--   face-count-chains        desk_count_chains
+--   face-nth-chain           desk_nth_chain
 --   face-part                desk_part
 --   face-write-sheet         desk_write_sheet
 --   face-read-sheet          desk_read_sheet
@@ -31,9 +33,12 @@ use Rattle.change.proofs.Determined.{change-polynomial-determined, change-pair-
 use Rattle.area.specs.Area.{start, part-of}
 use Rattle.chain.specs.declared.Chained.{Chained}
 use Rattle.chain.proofs.Promises.{chain-determined}
+use Rattle.chains.specs.declared.Numbered.{Numbered}
+use Rattle.chains.specs.declared.Chosen.{Chosen}
+use Rattle.chains.proofs.Promises.{number-determined, nth-determined}
 use Rattle.sheet.specs.declared.Contents.{Contents}
 use Rattle.sheet.proofs.Promises.{write-determined, read-determined}
-use Rattle.desk.specs.Face.{told, CheckedAs, AnswersAs, PartsAs, MadeAs, ChainedAs, WrittenAs, ReadAs, start-of, place-of}
+use Rattle.desk.specs.Face.{told, CheckedAs, AnswersAs, PartsAs, MadeAs, ChainedAs, NumberedAs, ChosenAs, WrittenAs, ReadAs, start-of, place-of}
 use Rattle.desk.specs.declared.Refused.{Refused}
 
 -- where an operation's contract determines its answer, so does that of its face
@@ -97,6 +102,21 @@ face-chain lf x y =
     let (e, area) = chain-determined lf (x .is) (y .is) in (
       x .refused ∙ ap (λ (a : Chained). told (a .outcome)) e ∙ sym (y .refused),
       x .numbers-are ∙ ap (λ (a : Chained). a .parts ∷ a .tries ∷ a .price ∷ []) e ∙ sym (y .numbers-are),
+      area,
+    )
+
+pub face-count-chains : {m : ℕ} {f : List ℕ} {r r′ : Refused} {n n′ : ℕ} → length f ≡ terms → NumberedAs m f r n → NumberedAs m f r′ n′ → (r ≡ r′) × (n ≡ n′)
+face-count-chains lf x y =
+    let e = number-determined lf (x .is) (y .is) in
+    (x .refused ∙ ap (λ (a : Numbered). told (a .outcome)) e ∙ sym (y .refused), x .number-is ∙ ap (λ (a : Numbered). a .number) e ∙ sym (y .number-is))
+
+-- with every word of the area
+pub face-nth-chain : {m j : ℕ} {f xs ys zs numbers numbers′ : List ℕ} {r r′ : Refused} → length f ≡ terms
+    → ChosenAs m f j xs ys r numbers → ChosenAs m f j xs zs r′ numbers′ → (r ≡ r′) × (numbers ≡ numbers′) × (ys ≡ zs)
+face-nth-chain lf x y =
+    let (e, area) = nth-determined lf (x .is) (y .is) in (
+      x .refused ∙ ap (λ (a : Chosen). told (a .outcome)) e ∙ sym (y .refused),
+      x .numbers-are ∙ ap (λ (a : Chosen). a .parts ∷ a .price ∷ []) e ∙ sym (y .numbers-are),
       area,
     )
 

@@ -3,22 +3,31 @@
 -- Demand 1: every request gets an answer, and each refusal returns and writes what the table says. That the work ends is what the
 -- check shows of every function; that the contracts determine the answer and each word of lent memory is said here.
 --   record-answer, compose-answer, left-part-answer, split-answer, change-polynomial-answer, change-pair-answer,
---   combine-answer, undo-answer, chain-answer, part-answer, write-sheet-answer, read-sheet-answer
+--   combine-answer, undo-answer, chain-answer, count-chains-answer, nth-chain-answer, part-answer, write-sheet-answer,
+--   read-sheet-answer
 -- Demand 2: the answers are those of Kozen and Landau.
 --   split-exact         where r and s fit and r has no factor in common with m: the pair with h(0) = 0, left and right, exactly if some
 --                       monic g and h of those degrees compose to f; else, and exactly if none do, No. 7 with zeros
 --   left-part-exact     the same of the left part for a given h whose degree fits
 --   chain-composes      a chain composes back to f, and none of its parts splits further; the area, read back, gives its parts
+--   nth-chain-composes  the same of the j-th chain
+--   every-chain-appears each complete chain is the j-th for one j below the number, and for no other: none is left out, none stands twice
+--   nth-chain-exact     there is a j-th chain exactly if j is below the number, and No. 18 exactly if it is not
+--   chains-in-order     the i-th is earlier than the j-th if i is below j
+--   first-chain         the first is the chain, area and all
+--   chains-within       there are 1 to n*n
 --   round-trip          composing a monic pair with h(0) = 0 and splitting it gives that pair back
 -- Demand 3: changing and then asking gives the same as asking first and carrying the change through the parts.
 --   split-carried       for a single split of what change_polynomial answers: a pair exactly if f has one, and it is what change_pair
 --                       answers; every refusal is that of f, "no pair" included
 --   chain-carried, chain-outcome-carried     same parts but for the change, same degrees, same number of tries, same refusal
 --   chain-read-back     the same for what change_polynomial answers, over the parts that the two areas hand out
+--   count-chains-carried, nth-chain-carried     and for the number of complete chains and the j-th of them
 --   carried-unique      carrying a change through the parts gives one result
 use mathlib.Core.Path.{_≡_, sym, _∙_}
+use mathlib.Core.Logic.{_↔_}
 use mathlib.Core.List.{List}
-use Prim.Native.Nat.{ℕ, _*_, _≤_}
+use Prim.Native.Nat.{ℕ, _*_, _≤_, _<_}
 use native.Mathlib.Omega.{arith}
 use lib.ListN.{length}
 use Rattle.algebra.specs.Number.{Coprime}
@@ -26,8 +35,12 @@ use Rattle.algebra.specs.Polynomial.{degree, terms, limit, Reduced}
 use Rattle.algebra.specs.Pair.{Normal}
 use Rattle.algebra.specs.Change.{Changed}
 use Rattle.algebra.specs.Chain.{Carried}
+use Rattle.algebra.specs.Every.{CompleteChain, Earlier}
 use Rattle.algebra.proofs.Factors.{coprime-invertible}
 use Rattle.algebra.proofs.Chains as algebra-law
+use Rattle.refusal.specs.Refusal.{refusal}
+use Rattle.refusal.specs.declared.Concerns.the-variants.{Neither}
+use Rattle.refusal.specs.declared.Reason.the-variants.{Beyond}
 use Rattle.refusal.specs.declared.Outcome.{Outcome}
 use Rattle.refusal.specs.declared.Outcome.the-variants.{Answered}
 use Rattle.polynomial.specs.Checks.{check-one, Accepted}
@@ -45,10 +58,16 @@ use Rattle.change.specs.declared.Made.{Made}
 use Rattle.change.specs.Changing.{ChangesPolynomial, ChangesPair, Combines, Undoing}
 use Rattle.change.proofs.Determined as change-law
 use Rattle.area.specs.Area.{part-of, area-words}
+use Rattle.area.proofs.Reading.{handed-out}
 use Rattle.chain.specs.declared.Chained.{Chained}
 use Rattle.chain.specs.Chaining.{ChainOf}
 use Rattle.chain.proofs.Promises as chain-law
 use Rattle.chain.proofs.Promises.{Complete, Carries}
+use Rattle.chains.specs.declared.Numbered.{Numbered}
+use Rattle.chains.specs.declared.Chosen.{Chosen}
+use Rattle.chains.specs.Choosing.{NumberOf, NthOf}
+use Rattle.chains.proofs.Promises as chains-law
+use Rattle.chains.proofs.Promises.{NthParts, Appears, NthCarried, without-tries}
 use Rattle.sheet.specs.declared.Contents.{Contents}
 use Rattle.sheet.specs.Answers.{ReadsSheet, WritesSheet}
 use Rattle.sheet.proofs.Promises as sheet-law
@@ -87,6 +106,13 @@ undo-answer = change-law.undo-determined
 pub chain-answer : {m : ℕ} {f xs ys zs : List ℕ} {x y : Chained} → length f ≡ terms → ChainOf m f xs ys x → ChainOf m f xs zs y → (x ≡ y) × (ys ≡ zs)
 chain-answer = chain-law.chain-determined
 
+pub count-chains-answer : {m : ℕ} {f : List ℕ} → length f ≡ terms → {x y : Numbered} → NumberOf m f x → NumberOf m f y → x ≡ y
+count-chains-answer = chains-law.number-determined
+
+-- with every word of the area
+pub nth-chain-answer : {m : ℕ} {f : List ℕ} → length f ≡ terms → {j : ℕ} {xs ys zs : List ℕ} {x y : Chosen} → NthOf m f j xs ys x → NthOf m f j xs zs y → (x ≡ y) × (ys ≡ zs)
+nth-chain-answer = chains-law.nth-determined
+
 pub part-answer : (xs : List ℕ) (i : ℕ) {p q : List ℕ} → p ≡ part-of xs i → q ≡ part-of xs i → p ≡ q
 part-answer xs i e f = e ∙ sym f
 
@@ -107,6 +133,29 @@ left-part-exact = exact-law.left-exact
 pub chain-composes : {m : ℕ} {f xs ys : List ℕ} {x : Chained} → length f ≡ terms → ChainOf m f xs ys x → x .outcome ≡ Answered
     → (parts : List (List ℕ)) × Complete m f xs ys x parts
 chain-composes = chain-law.chain-complete
+
+pub nth-chain-composes : {m j : ℕ} {f xs ys : List ℕ} {x : Chosen} → length f ≡ terms → NthOf m f j xs ys x → x .outcome ≡ Answered
+    → (parts : List (List ℕ)) × NthParts m f j xs ys x parts
+nth-chain-composes = chains-law.nth-complete
+
+pub every-chain-appears : {m : ℕ} {f : List ℕ} → length f ≡ terms → {x : Numbered} → NumberOf m f x → x .outcome ≡ Answered
+    → (parts : List (List ℕ)) → CompleteChain m f parts → Appears m f x parts
+every-chain-appears = chains-law.each-appears
+
+pub nth-chain-exact : {m : ℕ} {f : List ℕ} {x : Numbered} → length f ≡ terms → NumberOf m f x → x .outcome ≡ Answered → {j : ℕ} {xs ys : List ℕ} {y : Chosen}
+    → area-words ≤ length xs → NthOf m f j xs ys y → ((y .outcome ≡ Answered) ↔ (j < x .number)) × ((y .outcome ≡ refusal Neither Beyond) ↔ (x .number ≤ j))
+nth-chain-exact = chains-law.nth-exact
+
+pub chains-in-order : {m : ℕ} {f : List ℕ} → length f ≡ terms → {i j : ℕ} {xs ys xs′ ys′ : List ℕ} {x x′ : Chosen} → i < j → NthOf m f i xs ys x → NthOf m f j xs′ ys′ x′
+    → x .outcome ≡ Answered → x′ .outcome ≡ Answered → Earlier (handed-out ys (x .parts)) (handed-out ys′ (x′ .parts))
+chains-in-order = chains-law.nth-in-order
+
+pub first-chain : {m : ℕ} {f xs ys : List ℕ} {x : Chained} → length f ≡ terms → {zs : List ℕ} {y : Chosen} → ChainOf m f xs ys x → NthOf m f 0 xs zs y
+    → (y ≡ without-tries x) × (zs ≡ ys)
+first-chain = chains-law.nth-first
+
+pub chains-within : {m : ℕ} {f : List ℕ} → length f ≡ terms → {x : Numbered} → NumberOf m f x → x .outcome ≡ Answered → (1 ≤ x .number) × (x .number ≤ degree f * degree f)
+chains-within = chains-law.number-within
 
 pub round-trip : {m : ℕ} {g h : List ℕ} → Accepted m g → Accepted m h → degree g * degree h ≤ limit → Normal m h → Coprime (degree g) m
     → {y : Parts} → Splits m (compose m g h .polynomial) (degree g) y → y ≡ record { outcome = Answered; left = g; right = h }
@@ -134,6 +183,16 @@ chain-outcome-carried = chain-law.outcome-changed
 pub chain-read-back : {m : ℕ} {c : Change} {f xs ys xs′ ys′ : List ℕ} {w : Answer} {x x′ : Chained} → length f ≡ terms → ChangesPolynomial m f c w → w .outcome ≡ Answered
     → area-words ≤ length xs → area-words ≤ length xs′ → ChainOf m f xs ys x → ChainOf m (w .polynomial) xs′ ys′ x′ → ChainCarried m c ys ys′ x x′
 chain-read-back long k o = read-law.chain-changed (altered long k o)
+
+-- f′ is what the change of f answers: it has as many complete chains
+pub count-chains-carried : {m : ℕ} {c : Change} {f : List ℕ} {w : Answer} {x x′ : Numbered} → length f ≡ terms → ChangesPolynomial m f c w → w .outcome ≡ Answered
+    → NumberOf m f x → NumberOf m (w .polynomial) x′ → x′ ≡ x
+count-chains-carried long k o = let z = altered long k o in chains-law.number-changed (z .long) (z .proper .invertible) (z .changed) (z .reduced) (z .accepted)
+
+-- and its j-th chain, read back from its area, is that of f with the change carried from the right
+pub nth-chain-carried : {m j : ℕ} {c : Change} {f xs ys xs′ ys′ : List ℕ} {w : Answer} {x x′ : Chosen} → length f ≡ terms → ChangesPolynomial m f c w → w .outcome ≡ Answered
+    → area-words ≤ length xs → area-words ≤ length xs′ → NthOf m f j xs ys x → NthOf m (w .polynomial) j xs′ ys′ x′ → NthCarried m (c .unit) (c .origin) ys ys′ x x′
+nth-chain-carried long k o = let z = altered long k o in chains-law.nth-changed (z .long) (z .proper .invertible) (z .changed) (z .reduced) (z .accepted)
 
 -- so that "the change carried through the parts" is one list of parts
 pub carried-unique : {m a b : ℕ} {parts x y : List (List ℕ)} → 2 ≤ m → Coprime a m → Carried m a b parts x → Carried m a b parts y → x ≡ y

@@ -4,6 +4,7 @@
 --   coprime-words             what shares no factor with 2^32 is odd, and what is odd shares none
 --   split-even, split-odd     past the other refusals No. 5 is for an even r alone; only odd r can be split
 --   chain-even, chain-odd, chain-only-odd     past the other refusals No. 5 is for an even n alone and every odd n gets a chain; no other does
+--   count-even, nth-even      and so for the number of chains and the j-th
 --   proper-odd                a change is proper exactly if its a is odd
 --   polynomial-even, pair-even, undo-even, combine-even     so past the other refusals No. 8 is for an even a alone
 --   zero-record               a record of zero bytes is No. 3
@@ -36,6 +37,10 @@ use Rattle.area.specs.Area.{area-words}
 use Rattle.chain.specs.declared.Chained.{Chained}
 use Rattle.chain.specs.Chaining.{ChainOf}
 use Rattle.chain.proofs.Promises.{chain-exact, chain-complete}
+use Rattle.chains.specs.declared.Numbered.{Numbered}
+use Rattle.chains.specs.declared.Chosen.{Chosen}
+use Rattle.chains.specs.Choosing.{NumberOf, NthOf}
+use Rattle.chains.proofs.Promises.{number-exact, nth-factor}
 use Rattle.record.specs.Record.{word, record-bytes, coefficients, check-record, no-record, checked}
 
 -- 2 is the only prime in 2^32
@@ -73,6 +78,13 @@ module _ {f xs ys : List ℕ} {x : Chained} (is : ChainOf machine-words f xs ys 
   -- no other gets one
   pub chain-only-odd : length f ≡ terms → x .outcome ≡ Answered → degree f % 2 ≡ 1
   chain-only-odd long z = let (parts, k) = chain-complete long is z in coprime-words (degree f) .0 (k .coprime)
+
+-- the number of chains and the j-th chain: No. 5 is for an even n alone
+pub count-even : {f : List ℕ} {x : Numbered} → check-one machine-words f ≡ Answered → NumberOf machine-words f x → (x .outcome ≡ refusal Neither Factor) ↔ (degree f % 2 ≡ 0)
+count-even {f} passes k = Iff·trans (number-exact passes k .1) (even (degree f) (coprime-words (degree f)))
+
+pub nth-even : {f xs ys : List ℕ} {j : ℕ} {x : Chosen} → area-words ≤ length xs → check-one machine-words f ≡ Answered → NthOf machine-words f j xs ys x → (x .outcome ≡ refusal Neither Factor) ↔ (degree f % 2 ≡ 0)
+nth-even {f} room passes k = Iff·trans (nth-factor room passes k) (even (degree f) (coprime-words (degree f)))
 
 -- a change of machine words
 module _ {c : Change} (unit : c .unit < machine-words) (origin : c .origin < machine-words) where

@@ -2,8 +2,8 @@
 --
 --   Machine f      every coefficient is a machine word, as every u32 is
 --   NotTwo o       the outcome o is not No. 2
---   no-two-compose, no-two-left-part, no-two-split, no-two-change-polynomial, no-two-change-pair, no-two-chain, no-two-record,
---   no-two-write-sheet, no-two-read-sheet     so for each operation that checks a polynomial (for the reader: with the word 0 in every place)
+--   no-two-compose, no-two-left-part, no-two-split, no-two-change-polynomial, no-two-change-pair, no-two-chain, no-two-count-chains,
+--   no-two-nth-chain, no-two-record, no-two-write-sheet, no-two-read-sheet     so for each operation that checks a polynomial (for the reader: with the word 0 in every place)
 use mathlib.Core.Path.{_≡_, sym, ap, _∙_}
 use mathlib.Core.Bool.{Bool, true, false, not, cond, _&&_, _||_}
 use mathlib.Core.Logic.{by-cases}
@@ -39,6 +39,10 @@ use Rattle.area.specs.Area.{most-parts, area-words, place}
 use Rattle.chain.specs.declared.Chained.{Chained}
 use Rattle.chain.specs.Chaining.{ChainOf}
 use Rattle.chain.specs.Chaining as chaining
+use Rattle.chains.specs.declared.Numbered.{Numbered}
+use Rattle.chains.specs.declared.Chosen.{Chosen}
+use Rattle.chains.specs.Choosing.{NumberOf, NthOf}
+use Rattle.chains.specs.Choosing as choosing
 use Rattle.record.specs.Record.{word, record-bytes, coefficients, check-record, checked}
 use Rattle.record.specs.declared.Checked.{Checked}
 use Rattle.record.proofs.Answers.{check-outcome}
@@ -136,6 +140,18 @@ no-two-chain m (chaining.short l a q) = not-as (ap (λ (x : Chained). x .outcome
 no-two-chain m (chaining.refused l e a q) = not-as (ap (λ (x : Chained). x .outcome) q ∙ sym e) (not-check-one m)
 no-two-chain m (chaining.shared l e n a q) = not-as (ap (λ (x : Chained). x .outcome) q) (not-refusal Neither reason.Factor (λ e. omega arith))
 no-two-chain m (chaining.chained l e c k a q) = not-as (ap (λ (x : Chained). x .outcome) q) not-answered
+
+pub no-two-count-chains : {f : List ℕ} {x : Numbered} → Machine f → NumberOf machine-words f x → NotTwo (x .outcome)
+no-two-count-chains m (choosing.refused e q) = not-as (ap (λ (x : Numbered). x .outcome) q ∙ sym e) (not-check-one m)
+no-two-count-chains m (choosing.shared e n q) = not-as (ap (λ (x : Numbered). x .outcome) q) (not-refusal Neither reason.Factor (λ e. omega arith))
+no-two-count-chains m (choosing.numbered e c k q) = not-as (ap (λ (x : Numbered). x .outcome) q) not-answered
+
+pub no-two-nth-chain : {f xs ys : List ℕ} {j : ℕ} {x : Chosen} → Machine f → NthOf machine-words f j xs ys x → NotTwo (x .outcome)
+no-two-nth-chain m (choosing.short l a q) = not-as (ap (λ (x : Chosen). x .outcome) q) (not-refusal Neither reason.Area (λ e. omega arith))
+no-two-nth-chain m (choosing.refused l e a q) = not-as (ap (λ (x : Chosen). x .outcome) q ∙ sym e) (not-check-one m)
+no-two-nth-chain m (choosing.shared l e n a q) = not-as (ap (λ (x : Chosen). x .outcome) q) (not-refusal Neither reason.Factor (λ e. omega arith))
+no-two-nth-chain m (choosing.beyond l e c k b a q) = not-as (ap (λ (x : Chosen). x .outcome) q) (not-refusal Neither reason.Beyond (λ e. omega arith))
+no-two-nth-chain m (choosing.chosen l e c k a q) = not-as (ap (λ (x : Chosen). x .outcome) q) not-answered
 
 -- the coefficients of a record are machine words
 coefficients-machine : {b : List ℕ} → Bytes b → Machine (coefficients b)

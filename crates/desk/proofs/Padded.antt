@@ -2,6 +2,7 @@
 --
 --   padded-at, padded-same                  padding adds no coefficient
 --   Taken m n p, taken                        the desk takes p, padded, and n is its degree: by computation
+--   pair-padded, chainable-padded           a pair of it; as the chain takes it
 --   split-found, split-none, split-shared   the answer to a split of f, padded, from a pair, from "no pair", from a shared factor
 --   left-found, left-none                   the answer to: the left part of f for h
 --   changes-to                              the answer to a change of f
@@ -16,17 +17,18 @@ use lib.Dec.{ltb}
 use lib.ListN.{length, replicate}
 use Rattle.algebra.specs.Number.{Coprime, Invertible}
 use Rattle.algebra.specs.Polynomial.{coef, after, degree, terms, limit, Same, Monic}
-use Rattle.algebra.specs.Pair.{Normal}
+use Rattle.algebra.specs.Pair.{Normal, NormalPair}
 use Rattle.algebra.specs.Pair as pair
 use Rattle.algebra.specs.Change.{Changed}
 use Rattle.algebra.proofs.Polynomials.{_⨾_, same-refl, same-sym, after-same, scaled-same}
 use Rattle.algebra.proofs.Reduction.{reduced-equal}
 use Rattle.algebra.proofs.Factors.{invertible-coprime}
+use Rattle.algebra.proofs.Complete.{Chainable}
 use Rattle.refusal.specs.declared.Reason.the-variants.{Factor, NoPair}
 use Rattle.refusal.specs.declared.Outcome.the-variants.{Answered}
 use Rattle.polynomial.specs.Checks.{check-one, Accepted}
 use Rattle.polynomial.specs.Degrees.{Degrees}
-use Rattle.polynomial.proofs.Acceptance.{accepted-one, one-accepted, degree-fits}
+use Rattle.polynomial.proofs.Acceptance.{accepted-one, one-accepted, accepted-above, degree-fits}
 use Rattle.left.specs.Left.{NoLeft}
 use Rattle.polynomial.proofs.Filling.{zeros}
 use Rattle.composition.specs.Composition.{composition}
@@ -84,17 +86,30 @@ module _ {m n r s : ℕ} {f : List ℕ} (a : Taken m n f) (l : 2 ≤ r) (k : 2 �
   split-none i n = split-is-refused NoPair (pairing.none (accepted-split (a .accepted) (fit a l k e)) (invertible-coprime m (positive a) i)
       (rw (degrees-fit (fit a l k e) .1) (λ g h p. n g h (record { left = p .left; right = p .right; whole = padded-same f ⨾ p .whole }))) refl)
 
+-- the pair g, h of f, padded
+pub pair-padded : {m n r s : ℕ} {f g h : List ℕ} → Taken m n f → Taken m r g → Taken m s h → Normal m h → Same m f (after g h) → NormalPair m (padded f) r s (padded g) (padded h)
+pair-padded {m} {f = f} {g = g} {h = h} a b c z w = record {
+  pair = record { left = monic b; right = monic c; whole = composed-padded (positive a) f g h w };
+  normal = record { constant = ap (λ (x : ℕ). x % m) (padded-at h 0) ∙ z .constant };
+  reduced-left = b .accepted .reduced;
+  reduced-right = c .accepted .reduced;
+}
+
+-- f, padded, as the chain takes it
+pub chainable-padded : {m n : ℕ} {f : List ℕ} → Taken m n f → Invertible m n → Chainable m n (padded f)
+chainable-padded a i = record {
+  modulus = accepted-above (a .accepted);
+  whole = record { reduced = a .accepted .reduced; monic = monic a; within = rw (a .has) at (degree-fits (a .accepted)) };
+  two = two a;
+  inverse = i;
+}
+
 pub split-found : {m n r s : ℕ} {f g h : List ℕ} → Taken m n f → Taken m r g → Taken m s h → r * s ≡ n → Invertible m r → Normal m h → Same m f (after g h)
     → Holds (splits m f r g h)
 split-found {m} {n} {r} {s} {f} {g} {h} a b c e i z w =
     let d = fit a (two b) (two c) e in
     split-is (pairing.found {g = padded g} {h = padded h} (accepted-split (a .accepted) d) (invertible-coprime m (positive a) i)
-    (rw (degrees-fit d .1) (record {
-      pair = record { left = monic b; right = monic c; whole = composed-padded (positive a) f g h w };
-      normal = record { constant = ap (λ (x : ℕ). x % m) (padded-at h 0) ∙ z .constant };
-      reduced-left = b .accepted .reduced;
-      reduced-right = c .accepted .reduced;
-    })) refl)
+    (rw (degrees-fit d .1) (pair-padded a b c z w)) refl)
 
 module _ {m n r s : ℕ} {f h : List ℕ} (a : Taken m n f) (b : Taken m s h) (l : 2 ≤ r) (e : r * s ≡ n) where
   fits-for : Degrees (degree (padded f)) r (degree (padded h))

@@ -1,10 +1,11 @@
--- The starred cases of 01 hold, all of them.
+-- The starred cases of 01 hold, all of them, and what 02 works out beside them.
 --
 --   same-check, monic-check     a claim on closed lists by computation
 --   A-at-2, B-at-3, I-none      no pair, no left part: the forced one differs from f
 --   starred-hold                the whole table
+--   every-chain-holds           request No. 5's x^6: two chains, in order
 use mathlib.Core.Path.{_≡_, refl, sym, ap, _∙_}
-use mathlib.Core.List.{List, [], _∷_}
+use mathlib.Core.List.{List, [], _∷_, map}
 use Prim.Native.Nat.{ℕ, zero, suc, _*_, _-_, _%_, _≤_, _<_}
 use native.Mathlib.Nat as N
 use native.Mathlib.Omega.{arith}
@@ -12,16 +13,26 @@ use native.Mathlib.Decide.{decLt}
 use mathlib.Core.Bool.{true}
 use borrow.Author.Tests.{leb-true}
 use lib.Dec.{leb}
-use lib.ListN.{length, List·getD-eq-default}
-use Rattle.algebra.specs.Number.{table}
+use lib.ListN.{length, length-map, List·getD-eq-default}
+use Rattle.algebra.specs.Number.{table, Coprime}
 use Rattle.algebra.specs.Polynomial.{coef, plus, scaled, times, after, degree, highest, terms, limit, Same, Monic}
-use Rattle.algebra.specs.Pair.{NoPair}
+use Rattle.algebra.specs.Pair.{NoPair, NormalPair, Unsplit}
+use Rattle.algebra.specs.Chain.{price, cost}
+use Rattle.algebra.specs.Every.{EveryChain, NthChain}
 use Rattle.algebra.proofs.Numbers.{table-below}
 use Rattle.algebra.proofs.ForcedPair.{forced-refutes, left-refutes}
+use Rattle.algebra.proofs.Factors.{invertible-coprime}
+use Rattle.algebra.proofs.Chains.{unsplit-at}
+use Rattle.algebra.proofs.Complete.{Chainable, left-chainable, right-chainable}
+use Rattle.algebra.proofs.Every as E
+use Rattle.refusal.specs.declared.Reason.the-variants.{Beyond}
+use Rattle.refusal.specs.declared.Outcome.the-variants.{Answered}
 use Rattle.polynomial.specs.Moduli.{machine-words, smallest, largest, check-modulus}
 use Rattle.polynomial.specs.Checks.{offending, check-coefficients, check-degree, check-leading, check-polynomial, check-one}
-use Rattle.desk.specs.Cases.{padded, All, none, _and_, A, B, starred}
-use Rattle.desk.proofs.Padded.{taken, split-found, split-none, split-shared, left-found, left-none, changes-to, composes-to}
+use Rattle.polynomial.proofs.Acceptance.{one-accepted}
+use Rattle.chains.specs.Choosing as choosing
+use Rattle.desk.specs.Cases.{padded, nth-chain, Holds, All, none, _and_, number-is, nth-is, nth-is-refused, A, B, starred, x², x³, x⁶, every-chain}
+use Rattle.desk.proofs.Padded.{Taken, taken, pair-padded, chainable-padded, split-found, split-none, split-shared, left-found, left-none, changes-to, composes-to}
 
 -- lists of at most k places that agree there
 same-check : (m k : ℕ) (p q : List ℕ) → leb (length p) k ≡ true → leb (length q) k ≡ true → table k (λ i. coef p i % m) ≡ table k (λ i. coef q i % m) → Same m p q
@@ -99,3 +110,56 @@ starred-hold =
     composes-to (taken 2 2 _ refl refl refl) (taken 2 2 _ refl refl refl) (taken 2 4 _ refl refl refl) refl (same-check 2 places _ _ refl refl refl) and
     composes-to (taken 2 2 _ refl refl refl) (taken 2 2 _ refl refl refl) (taken 2 4 _ refl refl refl) refl (same-check 2 places _ _ refl refl refl) and
     none
+
+-- what has a degree below 4 does not split, and is its only chain
+low-unsplit : {m n : ℕ} {f : List ℕ} → n < 4 → Chainable m n f → Unsplit m f
+low-unsplit {n = n} l t = unsplit-at (t .modulus) (t .whole .reduced) (t .whole .monic) (λ s w. omega (arith, l, w .degrees, N.mul-le-mul (w .two-left) (w .two-right)))
+
+low-every : {m n : ℕ} {f : List ℕ} → n < 4 → Chainable m n f → EveryChain m f ((f ∷ []) ∷ [])
+low-every l t = E.every-one t (omega arith) (E.below-none t)
+
+-- f of degree 6 with a pair at 2 and one at 3
+sextic : {m : ℕ} {f a b c d : List ℕ} → Chainable m 6 f → NormalPair m f 3 2 a b → NormalPair m f 2 3 c d → EveryChain m f ((b ∷ a ∷ []) ∷ (d ∷ c ∷ []) ∷ [])
+sextic t p q =
+    let l = left-chainable t (omega arith) (omega arith) refl p in
+    let r = right-chainable t (omega arith) (omega arith) refl p in
+    let l′ = left-chainable t (omega arith) (omega arith) refl q in
+    let r′ = right-chainable t (omega arith) (omega arith) refl q in
+    let two = E.at-before t (omega arith) (omega arith) refl p (low-unsplit (omega arith) r) (low-every (omega arith) l) in
+    let three = E.at-before t (omega arith) (omega arith) refl q (low-unsplit (omega arith) r′) (low-every (omega arith) l′) in
+    E.every-below t {s = 4} (omega arith) (omega arith) (E.below-more t (E.below-more t (E.below-none t) two) three)
+
+module _ (t : Taken 101 6 x⁶) (cube : Taken 101 3 x³) (square : Taken 101 2 x²) where
+  whole : Chainable 101 6 (padded x⁶)
+  whole = chainable-padded t (record { inverse = 17; unit = refl })
+
+  two-chains : EveryChain 101 (padded x⁶) ((padded x² ∷ padded x³ ∷ []) ∷ (padded x³ ∷ padded x² ∷ []) ∷ [])
+  unfolding after plus times scaled table
+  two-chains = sextic whole (pair-padded t cube square (record { constant = refl }) (same-check 101 places _ _ refl refl refl)) (pair-padded t square cube (record { constant = refl }) (same-check 101 places _ _ refl refl refl))
+
+  checked : check-one 101 (padded x⁶) ≡ Answered
+  checked = one-accepted (t .accepted)
+
+  coprime : Coprime (degree (padded x⁶)) 101
+  coprime = rw (t .has) (invertible-coprime 101 (omega arith) (whole .inverse))
+
+  -- the price of a cube and a square, in either order
+  prices : (price (padded x² ∷ padded x³ ∷ []) ≡ 3) × (price (padded x³ ∷ padded x² ∷ []) ≡ 3)
+  unfolding price cost
+  prices = (omega (arith, square .has, cube .has), omega (arith, square .has, cube .has))
+
+  nth-holds : (j c : ℕ) (parts : List (List ℕ)) → NthChain 101 (padded x⁶) j (map padded parts) → price (map padded parts) ≡ c → Holds (nth-chain 101 x⁶ j parts c)
+  nth-holds j c parts k e = nth-is {j = j} {c = c} {parts = parts} (λ xs room. choosing.chosen {parts = map padded parts} room checked coprime k refl (rw (length-map parts padded, e)))
+
+  sextic-holds : All every-chain
+  sextic-holds =
+      number-is (choosing.numbered checked coprime two-chains refl) and
+      nth-holds 0 3 (x² ∷ x³ ∷ []) (E.at-nth whole two-chains (omega arith)) (prices .0) and
+      nth-holds 1 3 (x³ ∷ x² ∷ []) (E.at-nth whole two-chains (omega arith)) (prices .1) and
+      nth-is-refused {j = 2} Beyond (λ xs room. choosing.beyond room checked coprime two-chains (omega arith) refl refl) and
+      none
+
+-- request No. 5's case: which polynomials the desk takes, by computation
+pub every-chain-holds : All every-chain
+unfolding padded limit terms degree highest machine-words smallest largest offending check-modulus check-coefficients check-degree check-leading check-polynomial check-one
+every-chain-holds = sextic-holds (taken 101 6 _ refl refl refl) (taken 101 3 _ refl refl refl) (taken 101 2 _ refl refl refl)

@@ -1,13 +1,14 @@
--- The starred worked polynomials of 01, as one table of claims over the contracts of the operations.
+-- The starred worked polynomials of 01, as one table of claims over the contracts of the operations, and what 02 works out beside them.
 --
 --   padded p         p as the desk holds it: `terms` places, zeros after those of p
 --   Claim            what 01 says of a worked polynomial
 --   Holds c          what the claim says: the answer that the operation's contract allows, all of it
 --   All l            every claim of the list holds
 --   starred          the table: A, B, C, D, F, G, H, I, J
+--   every-chain      x^6 modulo 101, of request No. 5: its two complete chains
 use mathlib.Core.Path.{_≡_}
-use mathlib.Core.List.{List, [], _∷_, _++_}
-use Prim.Native.Nat.{ℕ, _-_}
+use mathlib.Core.List.{List, [], _∷_, _++_, map}
+use Prim.Native.Nat.{ℕ, _-_, _≤_}
 use lib.ListN.{length, replicate}
 use Rattle.algebra.specs.Polynomial.{terms}
 use Rattle.refusal.specs.Refusal.{refusal, number}
@@ -17,6 +18,8 @@ use Rattle.refusal.specs.declared.Outcome.the-variants.{Answered}
 use Rattle.polynomial.specs.Answers.{nothing, no-parts}
 use Rattle.pair.specs.Pairing.{compose, LeftPartOf, Splits}
 use Rattle.change.specs.Changing.{ChangesPolynomial}
+use Rattle.area.specs.Area.{area-words, cleared, written}
+use Rattle.chains.specs.Choosing.{unchosen, NumberOf, NthOf}
 
 -- zeros up to the desk's number of places
 unfoldable pub padded : List ℕ → List ℕ
@@ -29,8 +32,12 @@ pub data Claim : Type 0 where
   left-refused : ℕ → List ℕ → List ℕ → ℕ → Claim
   changes : ℕ → List ℕ → ℕ → ℕ → List ℕ → Claim
   composes : ℕ → List ℕ → List ℕ → List ℕ → Claim
+  has-chains : ℕ → List ℕ → ℕ → Claim
+  nth-chain : ℕ → List ℕ → ℕ → List (List ℕ) → ℕ → Claim
+  nth-refused : ℕ → List ℕ → ℕ → ℕ → Claim
 
--- f split at r gives g and h, or is refused by No. n; the left part of f for h is g, or is refused; f changed by (a, b) is f′; g after h is f
+-- f split at r gives g and h, or is refused by No. n; the left part of f for h is g, or is refused; f changed by (a, b) is f′; g after h is f;
+-- f has so many complete chains; the j-th has these parts, listed from the right, and this price, or is refused, in any area
 pub data Holds : Claim → Type 0 where
   split-is : {m r : ℕ} {f g h : List ℕ} → Splits m (padded f) r (record { outcome = Answered; left = padded g; right = padded h })
       → Holds (splits m f r g h)
@@ -44,6 +51,13 @@ pub data Holds : Claim → Type 0 where
       → Holds (changes m f a b f′)
   composition-is : {m : ℕ} {g h f : List ℕ} → compose m (padded g) (padded h) ≡ record { outcome = Answered; polynomial = padded f }
       → Holds (composes m g h f)
+  number-is : {m c : ℕ} {f : List ℕ} → NumberOf m (padded f) (record { outcome = Answered; number = c })
+      → Holds (has-chains m f c)
+  nth-is : {m j c : ℕ} {f : List ℕ} {parts : List (List ℕ)}
+      → ((xs : List ℕ) → area-words ≤ length xs → NthOf m (padded f) j xs (written xs (map padded parts)) (record { outcome = Answered; parts = length parts; price = c }))
+      → Holds (nth-chain m f j parts c)
+  nth-is-refused : {m j : ℕ} {f : List ℕ} (e : Reason) → ((xs : List ℕ) → area-words ≤ length xs → NthOf m (padded f) j xs (cleared xs) (unchosen (refusal Neither e)))
+      → Holds (nth-refused m f j (number e))
 
 -- every one
 infixr 20 _and_
@@ -79,4 +93,23 @@ starred =
     left-refused 2 (1 ∷ 0 ∷ 0 ∷ 1 ∷ 1 ∷ []) (0 ∷ 1 ∷ 1 ∷ []) 7 ∷
     composes 2 (0 ∷ 1 ∷ 1 ∷ []) (0 ∷ 0 ∷ 1 ∷ []) (0 ∷ 0 ∷ 1 ∷ 0 ∷ 1 ∷ []) ∷
     composes 2 (0 ∷ 0 ∷ 1 ∷ []) (0 ∷ 1 ∷ 1 ∷ []) (0 ∷ 0 ∷ 1 ∷ 0 ∷ 1 ∷ []) ∷
+    []
+
+-- the powers of x that request No. 5 names
+abbrev pub x² : List ℕ
+x² = 0 ∷ 0 ∷ 1 ∷ []
+
+abbrev pub x³ : List ℕ
+x³ = 0 ∷ 0 ∷ 0 ∷ 1 ∷ []
+
+abbrev pub x⁶ : List ℕ
+x⁶ = 0 ∷ 0 ∷ 0 ∷ 0 ∷ 0 ∷ 0 ∷ 1 ∷ []
+
+-- x^3 after x^2, then x^2 after x^3, and no third
+abbrev pub every-chain : List Claim
+every-chain =
+    has-chains 101 x⁶ 2 ∷
+    nth-chain 101 x⁶ 0 (x² ∷ x³ ∷ []) 3 ∷
+    nth-chain 101 x⁶ 1 (x³ ∷ x² ∷ []) 3 ∷
+    nth-refused 101 x⁶ 2 18 ∷
     []

@@ -6,6 +6,8 @@
 --   MadeAs Of r out     the same for an operation that answers a change: its unit and its origin
 --   PartsAs Of r g h    the same for an operation that answers two parts
 --   ChainedAs ..        what desk_chain returns and writes
+--   NumberedAs ..       what desk_count_chains returns and writes
+--   ChosenAs ..         what desk_nth_chain returns and writes
 --   WrittenAs ..        what desk_write_sheet returns and writes
 --   ReadAs ..           what desk_read_sheet returns and writes
 --   place-of xs i       where part i stands in the area xs: its start and its length, 0 and 0 if it is empty
@@ -21,6 +23,9 @@ use Rattle.polynomial.specs.declared.Parts.{Parts}
 use Rattle.change.specs.declared.Made.{Made}
 use Rattle.chain.specs.declared.Chained.{Chained}
 use Rattle.chain.specs.Chaining.{ChainOf}
+use Rattle.chains.specs.declared.Numbered.{Numbered}
+use Rattle.chains.specs.declared.Chosen.{Chosen}
+use Rattle.chains.specs.Choosing.{NumberOf, NthOf}
 use Rattle.area.specs.Area.{start, part-of}
 use Rattle.record.specs.Record.{checked}
 use Rattle.sheet.specs.declared.Contents.{Contents}
@@ -67,6 +72,20 @@ pub record ChainedAs (m : ℕ) (f xs ys : List ℕ) (r : face.Refused) (numbers 
   pub is : ChainOf m f xs ys chained
   pub refused : r ≡ told (chained .outcome)
   pub numbers-are : numbers ≡ chained .parts ∷ chained .tries ∷ chained .price ∷ []
+
+-- some number of complete chains
+pub record NumberedAs (m : ℕ) (f : List ℕ) (r : face.Refused) (number : ℕ) : Type 0 where
+  pub numbered : Numbered
+  pub is : NumberOf m f numbered
+  pub refused : r ≡ told (numbered .outcome)
+  pub number-is : number ≡ numbered .number
+
+-- some j-th chain, in numbers: parts, price; and the area afterwards
+pub record ChosenAs (m : ℕ) (f : List ℕ) (j : ℕ) (xs ys : List ℕ) (r : face.Refused) (numbers : List ℕ) : Type 0 where
+  pub chosen : Chosen
+  pub is : NthOf m f j xs ys chosen
+  pub refused : r ≡ told (chosen .outcome)
+  pub numbers-are : numbers ≡ chosen .parts ∷ chosen .price ∷ []
 
 -- some outcome of the writer, in numbers; and the sheet afterwards
 pub record WrittenAs (w : ℕ) (xs b c : List ℕ) (r : face.Refused) : Type 0 where

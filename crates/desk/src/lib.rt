@@ -3,7 +3,7 @@ ghost use mathlib.Core.Path.{_≡_};
 ghost use Rattle.polynomial.specs.Moduli.{modulus};
 ghost use Rattle.pair.specs.Pairing.{compose, LeftPartOf, Splits};
 ghost use Rattle.change.specs.Changing.{made, ChangesPolynomial, ChangesPair, Combines, Undoing};
-ghost use Rattle.desk.specs.Face.{told as told-of, CheckedAs, AnswersAs, PartsAs, MadeAs, ChainedAs, place-of, WrittenAs, ReadAs};
+ghost use Rattle.desk.specs.Face.{told as told-of, CheckedAs, AnswersAs, PartsAs, MadeAs, ChainedAs, NumberedAs, ChosenAs, place-of, WrittenAs, ReadAs};
 use change::Change;
 use polynomial::TERMS;
 use refusal::Outcome;
@@ -194,6 +194,34 @@ pub extern "C" fn desk_chain(
 {
     let x = chain::chain(m, *f, area);
     *numbers = [x.parts, x.tries, x.price];
+    let outcome = x.outcome;
+    told(outcome)
+}
+
+// The number of complete chains of f.
+#[no_mangle]
+pub extern "C" fn desk_count_chains(m: u32, f: &[u32; TERMS], number: &mut usize) -> Refused
+    ensures { λ r. ⌜ NumberedAs (modulus m) (now (f .entry)) r (now (number .exit)) ⌝ }
+{
+    let x = chains::count_chains(m, *f);
+    *number = x.number;
+    let outcome = x.outcome;
+    told(outcome)
+}
+
+// The j-th complete chain of f, from 0, into an area: numbers are its parts and price.
+#[no_mangle]
+pub extern "C" fn desk_nth_chain(
+    m: u32,
+    f: &[u32; TERMS],
+    j: usize,
+    area: &mut [u32],
+    numbers: &mut [usize; 2],
+) -> Refused
+    ensures { λ r. ⌜ ChosenAs (modulus m) (now (f .entry)) j (now (area .entry)) (now (area .exit)) r (now (numbers .exit)) ⌝ }
+{
+    let x = chains::nth_chain(m, *f, j, area);
+    *numbers = [x.parts, x.price];
     let outcome = x.outcome;
     told(outcome)
 }

@@ -12,7 +12,7 @@ use Prim.Native.Nat.{ℕ, _+_}
 use Rattle.refusal.specs.declared.Concerns.{Concerns}
 use Rattle.refusal.specs.declared.Concerns.the-variants.{Neither, First, Second, Place}
 use Rattle.refusal.specs.declared.Reason.{Reason}
-use Rattle.refusal.specs.declared.Reason.the-variants.{Modulus, Coefficient, Degree, Leading, Factor, Fit, NoPair, Change, Short, Limit, Area, Sheet}
+use Rattle.refusal.specs.declared.Reason.the-variants.{Modulus, Coefficient, Degree, Leading, Factor, Fit, NoPair, Change, Short, Limit, Area, Sheet, Beyond}
 use Rattle.refusal.specs.declared.Outcome.{Outcome}
 use Rattle.refusal.specs.declared.Outcome.the-variants.{Answered, Refused}
 
@@ -30,6 +30,7 @@ number Short = 9
 number Limit = 10
 number Area = 11
 number Sheet = 12
+number Beyond = 18
 
 -- which polynomial, as a number
 abbrev pub polynomial : Concerns → ℕ
@@ -52,6 +53,7 @@ power Short = 0
 power Limit = 0
 power Area = 0
 power Sheet = 0
+power Beyond = 0
 
 -- the outcome that is this refusal
 abbrev pub refusal : Concerns → Reason → Outcome

@@ -24,6 +24,7 @@ pub enum Reason {
     Limit,
     Area,
     Sheet,
+    Beyond,
 }
 
 pub struct Refusal {
@@ -71,6 +72,7 @@ pub fn number(reason: Reason) -> u32
         Reason::Limit => 10,
         Reason::Area => 11,
         Reason::Sheet => 12,
+        Reason::Beyond => 18,
     }
 }
 
@@ -103,5 +105,6 @@ pub fn power(reason: Reason) -> u32
         Reason::Limit => 0,
         Reason::Area => 0,
         Reason::Sheet => 0,
+        Reason::Beyond => 0,
     }
 }

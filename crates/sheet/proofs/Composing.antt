@@ -27,8 +27,8 @@ use Rattle.algebra.specs.Chain.{composed, degrees, product}
 use Rattle.algebra.proofs.Numbers.{table-length, table-below, table-ext}
 use Rattle.algebra.proofs.Highest.{degree-below}
 use Rattle.algebra.proofs.Polynomials.{same-refl, same-sym, after-same, monic-same}
-use Rattle.algebra.proofs.Coefficients.{after-monic}
 use Rattle.algebra.proofs.Reduction.{reduced-reduced, monic-reduced}
+use Rattle.algebra.proofs.Chains as C
 use Rattle.refusal.specs.Refusal.{refusal}
 use Rattle.refusal.specs.declared.Concerns.the-variants.{Neither}
 use Rattle.refusal.specs.declared.Reason.the-variants.{Limit}
@@ -119,27 +119,15 @@ module _ {m : ℕ} (two : 1 < m) where
   pos : 0 < m
   pos = omega arith
 
-  -- x modulo m
-  x-monic : Monic m 1 (0 ∷ 1 ∷ [])
-  x-monic = record { top = refl; above = go }
-    where
-      go : (i : ℕ) → 1 < i → coef (0 ∷ 1 ∷ []) i % m ≡ 0 % m
-      go zero l = refl
-      go (suc zero) l = absurd (omega arith)
-      go (suc (suc i)) l = refl
-
   -- the composition of the used ones of the first n is monic, of the product of their degrees
   pub composed-monic : {g : ℕ → List ℕ} → Parted m g → (n : ℕ) → n ≤ most-parts → Monic m (product (degrees (parts-in g n))) (composed (parts-in g n))
   unfolding parts-in composed degrees product
-  composed-monic {g} p zero l = x-monic
+  composed-monic {g} p zero l = C.composed-none pos
   composed-monic {g} p (suc n) l = go (composed-monic p n (omega arith)) (used (g n)) refl
     where
       go : Monic m (product (degrees (parts-in g n))) (composed (parts-in g n)) → (t : Bool) → used (g n) ≡ t → Monic m (product (degrees (parts-in g (suc n)))) (composed (parts-in g (suc n)))
       go k true e =
-          let h = p .is n (omega arith) e in
-          subst (λ (ps : List (List ℕ)). Monic m (product (degrees ps)) (composed ps)) (sym (parts-take g n e))
-          (subst (λ (k : ℕ). Monic m k (after (composed (parts-in g n)) (g n))) (N.mul-comm (product (degrees (parts-in g n))) (degree (g n)))
-          (after-monic m pos (let z = h .two in omega arith) k (h .monic)))
+          subst (λ (ps : List (List ℕ)). Monic m (product (degrees ps)) (composed ps)) (sym (parts-take g n e)) (C.composed-more pos (g n) (parts-in g n) (p .is n (omega arith) e) k)
       go k false e = subst (λ (ps : List (List ℕ)). Monic m (product (degrees ps)) (composed ps)) (sym (parts-skip g n e)) k
 
   -- its reduced list is the same modulo m

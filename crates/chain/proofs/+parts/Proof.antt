@@ -77,7 +77,7 @@ parts-put-requires-2 t c κs =
     let e = c .before .before .before .before .before .before .before .before in
     let p = e .before .before .before .before .pre .1 in
     let z = e .before .before .first-split .ensures .yes (not-false _ (e .if1 .left)) in
-    (omega (arith, next-place z (c .before .before .before .before .parts .ensures) (p .0 .two) (p .0 .whole .within)), omega arith, z .pair .reduced-right .long)
+    (omega (arith, next-place z (c .before .before .before .before .parts .ensures) (p .0 .modulus .above-one) (p .0 .two) (p .0 .whole .within)), omega arith, z .pair .reduced-right .long)
 
 parts-add-count : (t : ℕ) → parts-lts.Need-add-count (parts-claims t) (parts-at t) parts.Post
 unfolding most-parts
@@ -85,7 +85,7 @@ parts-add-count t c =
     let e = c .before .before .before .before .before .before .before .before .before .before .before .before in
     let p = e .before .before .before .before .pre .1 in
     let z = e .before .before .first-split .ensures .yes (not-false _ (e .if1 .left)) in
-    omega (arith, next-place z (c .before .before .before .before .before .before .before .before .parts .ensures) (p .0 .two) (p .0 .whole .within))
+    omega (arith, next-place z (c .before .before .before .before .before .before .before .before .parts .ensures) (p .0 .modulus .above-one) (p .0 .two) (p .0 .whole .within))
 
 -- tries and price are at most n
 parts-add-tries : (t : ℕ) → parts-lts.Need-add-tries (parts-claims t) (parts-at t) parts.Post
@@ -94,7 +94,7 @@ parts-add-tries t c =
     let e = c .before .before .before .before .before .before .before .before .before .before .before .before .before .before in
     let p = e .before .before .before .before .pre .1 in
     let z = e .before .before .first-split .ensures .yes (not-false _ (e .if1 .left)) in
-    omega (arith, p .0 .whole .within, chained-within (p .0 .modulus .above-one) (chained-more z (c .before .before .before .before .before .before .before .before .before .before .parts .ensures) refl) .0)
+    omega (arith, p .0 .whole .within, chained-within (p .0 .modulus .above-one) (p .0 .two) (chained-more z (c .before .before .before .before .before .before .before .before .before .before .parts .ensures) refl) .0)
 
 parts-add-price : (t : ℕ) → parts-lts.Need-add-price (parts-claims t) (parts-at t) parts.Post
 unfolding limit
@@ -103,7 +103,7 @@ parts-add-price t c =
     let p = e .before .before .before .before .pre .1 in
     let z = e .before .before .first-split .ensures .yes (not-false _ (e .if1 .left)) in
     let d = c .before .cost2 .ensures _ (degree-monic (p .0 .modulus .above-one) (z .pair .reduced-right) (z .pair .pair .right)) in
-    omega (arith, p .0 .whole .within, chained-within (p .0 .modulus .above-one) (chained-more z (c .before .before .before .before .before .before .before .before .before .before .before .before .parts .ensures) d) .1)
+    omega (arith, p .0 .whole .within, chained-within (p .0 .modulus .above-one) (p .0 .two) (chained-more z (c .before .before .before .before .before .before .before .before .before .before .before .before .parts .ensures) d) .1)
 
 -- the parts of the left part, and the right part
 parts-returns-2 : (t : ℕ) → parts-lts.Need-returns-2 (parts-claims t) (parts-at t) parts.Post

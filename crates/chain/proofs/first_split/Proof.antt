@@ -24,7 +24,7 @@ add-tries c = omega (arith, passed-few (c .before .before .loop .inv .0))
 split-at-requires : tie.Need-split-at-requires Inv-loop μ-loop
 split-at-requires c κs =
     let p = c .before .before .before .pre in
-    record { modulus = p .modulus; degrees = half-degrees (c .before .before .loop .inv .0) (c .if1 .taken) (omega arith) (p .whole .within); whole = p .whole; binomials = p .binomials }
+    record { modulus = p .modulus; degrees = half-degrees (c .before .before .loop .inv .0 .two) (c .if1 .taken) (omega arith) (p .whole .within); whole = p .whole; binomials = p .binomials }
 
 returns : tie.Need-returns Inv-loop μ-loop
 returns c =
@@ -32,7 +32,7 @@ returns c =
     let a = c .before .before .before .before .split-at in
     let p = t .before .before .before .pre in
     let i = t .before .before .loop .inv .0 in
-    let d = half-degrees i (t .if1 .taken) (omega arith) (p .whole .within) in
+    let d = half-degrees (i .two) (t .if1 .taken) (omega arith) (p .whole .within) in
     passed-hit i (t .if1 .taken) d (hit (sym (c .before .before .before .refuses .ensures) ∙ not-true _ (c .before .before .if2 .taken)) (a .ensures))
 
 -- s divides n and there was no pair, or s does not divide n
@@ -42,7 +42,7 @@ loop-again c =
     let i = c .before .before .loop .inv .0 in (
       ⊎-elim
           (λ w.
-          let d = half-degrees i (w .0 .taken) (omega arith) (p .whole .within) in
+          let d = half-degrees (i .two) (w .0 .taken) (omega arith) (p .whole .within) in
           let a = w .1 in
           let none = miss (sym (w .2 .ensures) ∙ not-false _ (w .3 .left)) (left-coprime _ (p .modulus .above-one) (p .coprime) (d .product)) (a .ensures) in
           rw (w .4) (passed-missed i (w .0 .taken) none))

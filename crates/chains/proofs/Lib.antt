@@ -1,0 +1,4 @@
+pub mod Counting
+pub mod Walking
+pub mod Answering
+pub mod Promises

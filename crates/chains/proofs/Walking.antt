@@ -1,0 +1,119 @@
+-- The walk to the j-th chain, and its parts in the places of an area.
+--
+--   complete-full                    every part of a complete chain fills its place
+--   Gone m f s j i                   all chains with a rightmost degree below s come before the j-th, and i more
+--   gone-none, gone-pass, gone-take  none is below 2; none at s; those at s come before it too
+--   next-place, more-price           the j-th chain of f fits the area and a word: there is a place for the right part
+--   laid-more                        the i-th chain of the left part, and the right part in that place: the j-th chain of f
+--   passed-all                       past n/2: those that were passed are all
+--   passed-one, laid-one             none was passed, and f is its only chain: not the j-th; the j-th
+use mathlib.Core.Path.{_≡_, refl, sym, ap, subst, _∙_}
+use mathlib.Core.Bool.{true, false, false≢true}
+use mathlib.Core.List.{List, [], _∷_, _++_}
+use Prim.Native.Nat.{ℕ, suc, _+_, _*_, _-_, _/_, _≤_, _<_}
+use native.Mathlib.Nat as N
+use native.Mathlib.Omega.{arith}
+use native.Mathlib.Numerals.{add-one}
+use lib.ListN.{length, drop}
+use Rattle.algebra.specs.Polynomial.{terms, degree}
+use Rattle.algebra.specs.Chain.{part, price, cost}
+use Rattle.algebra.specs.Every.{CompleteChain, NthChain}
+use Rattle.algebra.proofs.Complete.{Chainable, complete-length, complete-price}
+use Rattle.algebra.proofs.Every as E
+use Rattle.area.specs.Area as area
+use Rattle.area.specs.Area.{most-parts, put-at}
+use Rattle.area.proofs.Laying.{Full, laid-none, put-next}
+use Rattle.area.proofs.Reading.{part-fills, fills-full}
+use Rattle.chain.proofs.Placing.{places-enough}
+use Rattle.chains.specs.declared.Reach.{Reach}
+use Rattle.chains.specs.Walking.{Rightmost, Counted, NthIn, Passed, Walked, laid, passed}
+use Rattle.chains.proofs.Counting.{Below, below-none, below-pass, below-take, none-listed, counted-one, counted-all}
+
+-- every part fills its place
+pub complete-full : {m : ℕ} {f : List ℕ} {parts : List (List ℕ)} → 2 ≤ m → CompleteChain m f parts → Full parts
+complete-full {parts = parts} two c = fills-full parts (λ i l. part-fills two (c .is-part i l))
+
+-- the chains below s were passed
+pub record Gone (m : ℕ) (f : List ℕ) (s j i : ℕ) : Type 0 where
+  pub number : ℕ
+  pub below : Below m f s number
+  pub is : number + i ≡ j
+
+module _ {m n : ℕ} {f : List ℕ} (t : Chainable m n f) where
+  pub gone-none : (j : ℕ) → Gone m f 2 j j
+  gone-none j = record { number = 0; below = below-none t; is = omega arith }
+
+  module _ {s j i : ℕ} (p : Gone m f s j i) where
+    pub gone-pass : ((x : List (List ℕ)) → CompleteChain m f x → degree (part x 0) ≡ s → ⊥) → Gone m f (s + 1) j i
+    gone-pass none = record { number = p .number; below = below-pass t (p .below) none; is = p .is }
+
+    pub gone-take : {k : ℕ} {g h : List ℕ} → Rightmost m n f s g h → Counted m g k → k ≤ i → Gone m f (s + 1) j (i - k)
+    gone-take {k = k} z q l = record { number = p .number + k; below = below-take t (p .below) z q; is = omega (arith, p .is) }
+
+  -- there is a place for each part
+  pub nth-within : {parts : List (List ℕ)} → CompleteChain m f parts → (length parts ≤ most-parts) × (price parts ≤ n)
+  nth-within c = (places-enough (t .whole .within) (complete-length (t .modulus) (t .whole .monic) c), complete-price (t .modulus) (t .whole .monic) c)
+
+  -- f in the first place
+  one-in : {s j c : ℕ} → n / 2 < s → Below m f s 0 → j ≤ 0 → (xs : List ℕ) → c ≡ cost f → NthIn m f j xs (put-at xs 0 f) 1 c
+  unfolding price area.laid
+  one-in half p l xs e = record {
+    parts = f ∷ [];
+    nth = subst (λ (k : ℕ). NthChain m f k (f ∷ [])) (omega arith) (E.nth-alone t half (none-listed p));
+    count-is = refl;
+    cost-is = omega (arith, e);
+    area = ap (λ (k : ℕ). put-at (drop k xs) 0 f) (sym (N.zero-mul terms)) ∙ put-next xs f refl laid-none;
+  }
+
+-- what the walk says
+module _ {m j : ℕ} {f xs ys : List ℕ} where
+  walked-laid : {k c : ℕ} {a : Reach} → a ≡ laid k c → NthIn m f j xs ys k c → Walked m f j xs ys (a .found) (a .number) (a .parts) (a .price)
+  walked-laid e q = rw e (record { yes = λ z. q; no = λ z. absurd (false≢true (sym z)) })
+
+  walked-passed : {c : ℕ} {a : Reach} → a ≡ passed c → Passed m f j xs ys c → Walked m f j xs ys (a .found) (a .number) (a .parts) (a .price)
+  walked-passed e q = rw e (record { yes = λ z. absurd (false≢true z); no = λ z. q })
+
+module _ {m n s j i : ℕ} {f g h : List ℕ} (t : Chainable m n f) (p : Gone m f s j i) (z : Rightmost m n f s g h) {xs ys : List ℕ} {k c : ℕ} (q : NthIn m g i xs ys k c) where
+  more : NthChain m f j (h ∷ q .parts)
+  more = subst (λ (d : ℕ). NthChain m f d (h ∷ q .parts)) (omega (arith, p .is, p .below .is)) (E.nth-more t (z .two-left) (z .two-right) (z .product) (z .pair) (z .unsplit) (p .below .lists) (q .nth))
+
+  -- the chain of f has no more parts than there are places, so the left part's has fewer
+  pub next-place : k < most-parts
+  next-place = omega (arith, q .count-is, nth-within t (more .complete) .0)
+
+  -- the right part goes there
+  reached-more : {d : ℕ} → d ≡ cost h → NthIn m f j xs (put-at ys k h) (k + 1) (c + d)
+  unfolding price
+  reached-more e = record {
+    parts = h ∷ q .parts;
+    nth = more;
+    count-is = omega (arith, q .count-is);
+    cost-is = omega (arith, q .cost-is, e);
+    area = ap (λ (l : List ℕ). put-at l k h) (q .area) ∙ put-next xs h (sym (q .count-is)) (complete-full (t .modulus) (q .nth .complete))
+        ∙ ap (λ (d : ℕ). area.laid (h ∷ q .parts) ++ drop (d * terms) xs) (sym (add-one k));
+  }
+
+  -- and the price fits a word
+  pub more-price : {d : ℕ} → d ≡ cost h → c + d ≤ n
+  unfolding price
+  more-price e = omega (arith, e, q .cost-is, nth-within t (more .complete) .1)
+
+  -- so the j-th chain of f is laid over the area as it was
+  pub laid-more : {xs₀ zs : List ℕ} {d : ℕ} {a : Reach} → xs ≡ xs₀ → d ≡ cost h → zs ≡ put-at ys k h → a ≡ laid (k + 1) (c + d) → Walked m f j xs₀ zs (a .found) (a .number) (a .parts) (a .price)
+  laid-more {zs = zs} {d = d} same e put is = walked-laid is (subst (λ (l : List ℕ). NthIn m f j l zs (k + 1) (c + d)) same (subst (λ (l : List ℕ). NthIn m f j xs l (k + 1) (c + d)) (sym put) (reached-more e)))
+
+module _ {m n s j i : ℕ} {f xs ys : List ℕ} {a : Reach} (t : Chainable m n f) (half : n / 2 < s) (p : Gone m f s j i) (same : ys ≡ xs) where
+  -- those that were passed are all
+  pub passed-all : i < j → a ≡ passed (j - i) → Walked m f j xs ys (a .found) (a .number) (a .parts) (a .price)
+  passed-all l e = walked-passed e (record { counted = counted-all t half (omega arith) (subst (λ (k : ℕ). Below m f s k) (omega (arith, p .is)) (p .below)); most = omega arith; area = same })
+
+  -- none was passed
+  pub passed-one : j ≤ i → 0 < j → a ≡ passed 1 → Walked m f j xs ys (a .found) (a .number) (a .parts) (a .price)
+  passed-one l k e = walked-passed e (record { counted = counted-one t half (subst (λ (k : ℕ). Below m f s k) (omega (arith, p .is)) (p .below)); most = omega arith; area = same })
+
+  -- and f itself is the first
+  pub laid-one : {zs : List ℕ} {d : ℕ} → j ≤ i → j ≤ 0 → d ≡ cost f → zs ≡ put-at ys 0 f → a ≡ laid 1 d → Walked m f j xs zs (a .found) (a .number) (a .parts) (a .price)
+  laid-one {zs} {d} l z e put is = walked-laid is (subst (λ (l : List ℕ). NthIn m f j l zs 1 d) same (subst (λ (l : List ℕ). NthIn m f j ys l 1 d) (sym put) (one-in t half none z ys e)))
+    where
+      none : Below m f s 0
+      none = subst (λ (k : ℕ). Below m f s k) (omega (arith, p .is)) (p .below)

@@ -1,0 +1,105 @@
+use mathlib.Core.Path.{_≡_, sym, _∙_}
+use native.Mathlib.Omega.{arith}
+use borrow.Author.Needs.{needs}
+use borrow.Author.Tests.{not-true, not-false}
+use lib.ListN.{length}
+use Rattle.algebra.specs.Polynomial.{terms, limit}
+use Rattle.refusal.proofs.Outcomes.{answered}
+use Rattle.polynomial.proofs.Acceptance.{accepted-modulus, accepted-one, accepted-above, accepted-as}
+use Rattle.area.specs.Area.{most-parts, area-words}
+use Rattle.chains.proofs.Answering.{nth-short, nth-refused, nth-shared, nth-beyond, nth-told}
+use Rattle.chains.proofs.nth_chain.Statement.{statement}
+use Rattle.chains.proofs.nth_chain.Tie as tie
+
+-- f is an array of `terms` words: said once, near the start, since omega does not reach so far back from the end
+long : (e : tie.Else2) → length (e .before .before .before .before .before .before .before .before .before .before .before .before .before .args .t2) ≡ terms
+unfolding terms limit
+long e = omega arith
+
+-- No. 11
+returns : tie.Need-returns
+unfolding terms limit most-parts area-words
+returns c = nth-short (c .before .before .if1 .taken) (c .before .refused .ensures) (c .unchosen .ensures)
+
+check-one-requires : tie.Need-check-one-requires
+unfolding terms limit
+check-one-requires c κs = record { long = omega arith; is = c .before .degree .ensures }
+
+-- Nos. 1 to 4
+returns-2 : tie.Need-returns-2
+unfolding terms limit most-parts area-words
+returns-2 c =
+    let e = c .before in
+    rw (← e .before .before .before .before .before .before .before .before .before .before .before .modulus .ensures) (nth-refused (e .before .before .before .before .before .before .before .before .before .before .if1 .left) (e .before .before .check-one .ensures) (sym (e .before .refuses .ensures) ∙ e .if2 .taken) (e .before .before .before .before .before .before .before .before .clear .ensures) (c .unchosen2 .ensures))
+
+shares-requires : tie.Need-shares-requires
+unfolding terms limit
+shares-requires e κs =
+    accepted-modulus (accepted-one (omega arith) (sym (e .before .before .check-one .ensures) ∙ answered (sym (e .before .refuses .ensures) ∙ e .if2 .left)) .modulus)
+
+-- No. 5
+returns-3 : tie.Need-returns-3
+unfolding terms limit most-parts area-words
+returns-3 c =
+    let e = c .before .before .before .before in
+    rw (← e .before .before .before .before .before .before .before .before .before .before .before .modulus .ensures)
+    (nth-shared (e .before .before .before .before .before .before .before .before .before .before .if1 .left) (e .before .before .check-one .ensures) (sym (e .before .refuses .ensures) ∙ e .if2 .left) (e .before .before .before .before .degree .ensures) (c .before .before .before .shares .ensures) (c .before .before .if3 .taken) (e .before .before .before .before .before .before .before .before .clear .ensures) (c .before .refused2 .ensures) (c .unchosen3 .ensures))
+
+walk-requires : tie.Need-walk-requires
+unfolding terms limit most-parts area-words
+walk-requires c κs =
+    let e = c .before .before .before .before .before in
+    let a = sym (e .before .before .check-one .ensures) ∙ answered (sym (e .before .refuses .ensures) ∙ e .if2 .left) in
+    let (w, held, two) = accepted-as (e .before .before .before .before .degree .ensures) (accepted-one (long e) a) in
+    (record { modulus = w; whole = held; two = two; coprime = c .before .before .before .before .shares .ensures .no (c .before .before .before .if3 .left); binomials = c .before .before .table .ensures }, omega arith)
+
+-- No. 18
+returns-4 : tie.Need-returns-4
+unfolding terms limit most-parts area-words
+returns-4 c =
+    let e = c .before .before .before .before .before .before .before .before .before .before .before .before in
+    rw (← e .before .before .before .before .before .before .before .before .before .before .before .modulus .ensures)
+    (nth-beyond (e .before .before .before .before .before .before .before .before .before .before .if1 .left) (e .before .before .check-one .ensures) (sym (e .before .refuses .ensures) ∙ e .if2 .left) (e .before .before .before .before .degree .ensures) (c .before .before .before .before .before .before .before .before .before .before .before .shares .ensures) (c .before .before .before .before .before .before .before .before .before .before .if3 .left) (e .before .before .before .before .before .before .before .before .clear .ensures)
+    (c .before .before .before .before .before .before .walk .ensures .no (not-true _ (c .before .before .if4 .taken))) (c .before .refused3 .ensures) (c .unchosen4 .ensures))
+
+-- the j-th chain
+returns-5 : tie.Need-returns-5
+unfolding terms limit most-parts area-words
+returns-5 c =
+    let e = c .before .before .before .before .before .before .before .before .before .before in
+    let a = sym (e .before .before .check-one .ensures) ∙ answered (sym (e .before .refuses .ensures) ∙ e .if2 .left) in
+    rw (← e .before .before .before .before .before .before .before .before .before .before .before .modulus .ensures)
+    (nth-told (e .before .before .before .before .before .before .before .before .before .before .if1 .left) (e .before .before .check-one .ensures) (sym (e .before .refuses .ensures) ∙ e .if2 .left) (e .before .before .before .before .degree .ensures) (c .before .before .before .before .before .before .before .before .before .shares .ensures) (c .before .before .before .before .before .before .before .before .if3 .left) (e .before .before .before .before .before .before .before .before .clear .ensures)
+    (accepted-above (accepted-one (long e) a)) (c .before .before .before .before .walk .ensures .yes (not-false _ (c .if4 .left))))
+
+pub nth-chain-spec : {M : Type 1} → statement M
+unfolding terms limit most-parts area-words
+nth-chain-spec =
+    tie.close
+    (tie.spec
+    (λ c κs. search needs)
+    (λ c κs. search needs)
+    (λ c κs. search needs)
+    returns
+    (λ c κs. search needs)
+    (λ c. search needs)
+    (λ c κs. search needs)
+    (λ c. search needs)
+    check-one-requires
+    (λ c κs. search needs)
+    (λ c κs. search needs)
+    (λ c. search needs)
+    returns-2
+    shares-requires
+    (λ c κs. search needs)
+    (λ c κs. search needs)
+    (λ c. search needs)
+    returns-3
+    (λ c κs. search needs)
+    walk-requires
+    (λ c κs. search needs)
+    (λ c κs. search needs)
+    (λ c. search needs)
+    returns-4
+    (λ c. search needs)
+    returns-5)

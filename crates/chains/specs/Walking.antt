@@ -1,0 +1,66 @@
+-- The complete chains of f counted, and walked through to the j-th, right degree by right degree.
+--
+--   Rightmost m n f s g h           h, of degree s, is the rightmost part of a complete chain of f, and g is what is left of it
+--   RightmostAt m n f s b g h       whether some complete chain of f has a rightmost part of degree s
+--   Counted m f c                   f has c complete chains
+--   NthIn m f j xs ys k c           the j-th chain of f stands in the first k places of ys, with its price c
+--   Passed m f j xs ys c            f has c complete chains, which are not more than j, and nothing was written
+--   Walked m f j xs ys b p k c      what the walk to the j-th chain finds
+--   laid k c, passed p              how it says so
+use mathlib.Core.Path.{_≡_}
+use mathlib.Core.Bool.{Bool, true, false}
+use mathlib.Core.List.{List, _++_}
+use Prim.Native.Nat.{ℕ, _*_, _/_, _≤_}
+use lib.ListN.{length, drop}
+use Rattle.algebra.specs.Polynomial.{terms, degree}
+use Rattle.algebra.specs.Pair.{NormalPair, Unsplit}
+use Rattle.algebra.specs.Chain.{part, price}
+use Rattle.algebra.specs.Every.{CompleteChain, EveryChain, NthChain}
+use Rattle.area.specs.Area as area
+use Rattle.chains.specs.declared.Reach.{Reach}
+
+-- f splits at s, and its right part there does not split
+pub record Rightmost (m n : ℕ) (f : List ℕ) (s : ℕ) (g h : List ℕ) : Type 0 where
+  pub two-left : 2 ≤ n / s
+  pub two-right : 2 ≤ s
+  pub product : n / s * s ≡ n
+  pub pair : NormalPair m f (n / s) s g h
+  pub unsplit : Unsplit m h
+
+-- a yes with the pair, a no for all complete chains
+pub record RightmostAt (m n : ℕ) (f : List ℕ) (s : ℕ) (found : Bool) (g h : List ℕ) : Type 0 where
+  pub yes : found ≡ true → Rightmost m n f s g h
+  pub no : found ≡ false → (x : List (List ℕ)) → CompleteChain m f x → degree (part x 0) ≡ s → ⊥
+
+-- the list of all of them has length c
+pub record Counted (m : ℕ) (f : List ℕ) (c : ℕ) : Type 0 where
+  pub chains : List (List (List ℕ))
+  pub every : EveryChain m f chains
+  pub is : c ≡ length chains
+
+-- its parts stand in the first places, left to right, and nothing else has changed
+pub record NthIn (m : ℕ) (f : List ℕ) (j : ℕ) (xs ys : List ℕ) (count cost : ℕ) : Type 0 where
+  pub parts : List (List ℕ)
+  pub nth : NthChain m f j parts
+  pub count-is : count ≡ length parts
+  pub cost-is : cost ≡ price parts
+  pub area : ys ≡ area.laid parts ++ drop (count * terms) xs
+
+-- there is no j-th
+pub record Passed (m : ℕ) (f : List ℕ) (j : ℕ) (xs ys : List ℕ) (number : ℕ) : Type 0 where
+  pub counted : Counted m f number
+  pub most : number ≤ j
+  pub area : ys ≡ xs
+
+-- a yes with the j-th chain, a no with how many there are
+pub record Walked (m : ℕ) (f : List ℕ) (j : ℕ) (xs ys : List ℕ) (found : Bool) (number count cost : ℕ) : Type 0 where
+  pub yes : found ≡ true → NthIn m f j xs ys count cost
+  pub no : found ≡ false → Passed m f j xs ys number
+
+-- the j-th chain was reached
+abbrev pub laid : ℕ → ℕ → Reach
+laid count cost = record { found = true; number = 0; parts = count; price = cost }
+
+-- there is no j-th
+abbrev pub passed : ℕ → Reach
+passed number = record { found = false; number = number; parts = 0; price = 0 }
