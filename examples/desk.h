@@ -5,7 +5,7 @@
  * No. 11 so does an area). What is past the DESK_WORDS of an area, or the DESK_SHEET of a sheet, is neither read nor written.
  *
  * A modulus m is a word: 2 to 2,147,483,647, or 0, which means 2^32. At 2^32 every word is a coefficient; No. 5 is given for an
- * even r and for a chain of an even n, No. 8 only for an even a. The modulus that desk_check and desk_read_sheet write is that
+ * even r and for chains of an even n, No. 8 only for an even a. The modulus that desk_check and desk_read_sheet write is that
  * word; after a refusal it is 0 as well, so look at the number first.
  *
  * Memory: no pointer may be null, and each is aligned for its type, also where a count is 0 and nothing is read or written.
@@ -13,9 +13,9 @@
  * it reads. What it only reads may overlap: g and h may be one polynomial. Nobody else writes any of it before the call
  * returns. The library keeps no pointer and has no state, so threads may call it at once; it calls memcpy, memmove and memset.
  *
- * Stack that a call takes, about (stack.c measures it, docs/STACK.md has the bytes): desk_chain 35 KB, desk_split 26 KB,
- * desk_left_part 6 KB, desk_change_pair 5 KB, desk_change_polynomial 3 KB, desk_compose, desk_read_sheet and desk_check 2 KB,
- * every other 1 KB. A thread wants some 10 KB more for itself. */
+ * Stack that a call takes, about (stack.c measures it, docs/STACK.md has the bytes): desk_nth_chain ? KB, desk_count_chains
+ * ? KB, desk_chain 35 KB, desk_split 26 KB, desk_left_part 6 KB, desk_change_pair 5 KB, desk_change_polynomial 3 KB,
+ * desk_compose, desk_read_sheet and desk_check 2 KB, every other 1 KB. A thread wants some 10 KB more for itself. */
 #ifndef DESK_H
 #define DESK_H
 
@@ -43,6 +43,7 @@ typedef uint32_t desk_polynomial[DESK_TERMS];
  *    5  r, or a chain's n, shares a factor with m  10  the composed degree is too high
  *   11  the area has fewer than DESK_WORDS words, or the sheet has fewer than DESK_SHEET bytes
  *   12  the used places are not the first ones, or none is used, or the moduli of a sheet differ
+ *   18  j is not below the number of chains
  * polynomial: which one 2, 3 and 4 concern, 1 the first, 2 the second, 16 + i that in place i, from 0, of a sheet or of the
  *    area that is written as one; 0 for all others
  * power: the lowest whose coefficient offends for 2; 0 for all others */
@@ -70,6 +71,12 @@ desk_refused desk_undo(uint32_t m, uint32_t a, uint32_t b, uint32_t out[2]);
 /* the complete chain of f in the area, its parts left to right; numbers: parts, tries, price (the multiplications that the parts
  * cost: n - 1 for one of degree n) */
 desk_refused desk_chain(uint32_t m, const desk_polynomial f, uint32_t *area, size_t count, size_t numbers[3]);
+/* the number of f's complete chains that are normal: no part splits, and all parts but the leftmost have constant term 0 */
+desk_refused desk_count_chains(uint32_t m, const desk_polynomial f, size_t *number);
+/* the j-th of them, from 0, in the area as desk_chain writes it; numbers: parts, price. They are ordered by the degrees of their
+ * parts read from the right, the part next to x first: the smaller degree at the first difference comes first. The 0th is
+ * desk_chain's. The chains of one f may differ in their number of parts and their price (worked.c has such an f). */
+desk_refused desk_nth_chain(uint32_t m, const desk_polynomial f, size_t j, uint32_t *area, size_t count, size_t numbers[2]);
 /* place: where part i, from 0, starts in the area and how long it is; 0 and 0 if it is empty */
 void desk_part(const uint32_t *area, size_t count, size_t i, size_t place[2]);
 /* the sheet of the modulus m and the area's parts, a chain's or any others: a record for each, left to right, and zero bytes in

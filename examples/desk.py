@@ -5,7 +5,7 @@ is (a, b). Where 01 or 02 refuses, Refused is raised. What is no request at all 
 its word, a list that is too long) or TypeError (what is no whole number).
 
 A modulus m is a word: 2 to 2147483647, or 0, which means 2^32 (2**32 fits no word). The modulus in an answer is that word too.
-At 2^32 every word is a coefficient; No. 5 is given for an even r and for a chain of an even n, No. 8 only for an even a.
+At 2^32 every word is a coefficient; No. 5 is given for an even r and for chains of an even n, No. 8 only for an even a.
 """
 
 import collections
@@ -34,6 +34,7 @@ REASONS = {
     10: "the composed degree is too high",
     11: f"the area has fewer than {WORDS} words, or the sheet has fewer than {SHEET} bytes",
     12: "the used places are not the first ones, or none is used, or the moduli of a sheet differ",
+    18: "j is not below the number of chains",
 }
 
 
@@ -62,6 +63,7 @@ class Refused(Exception):
 
 Checked = collections.namedtuple("Checked", "modulus polynomial degree")
 Chain = collections.namedtuple("Chain", "parts tries price")
+NthChain = collections.namedtuple("NthChain", "parts price")
 Sheet = collections.namedtuple("Sheet", "modulus parts polynomial")
 
 
@@ -75,6 +77,7 @@ _Bytes = ctypes.POINTER(ctypes.c_uint8)
 _Polynomial = _Word * TERMS
 _Change = _Word * 2
 _Numbers = _Size * 3
+_NthNumbers = _Size * 2
 _Place = _Size * 2
 _Sheet = ctypes.c_uint8 * SHEET
 
@@ -93,6 +96,8 @@ _FUNCTIONS = {
     "combine": (_Word, _Word, _Word, _Word, _Word, _Change),
     "undo": (_Word, _Word, _Word, _Change),
     "chain": (_Word, _Polynomial, _Words, _Size, _Numbers),
+    "count_chains": (_Word, _Polynomial, ctypes.POINTER(_Size)),
+    "nth_chain": (_Word, _Polynomial, _Size, _Words, _Size, _NthNumbers),
     "part": (_Words, _Size, _Size, _Place),
     "write_sheet": (_Word, _Words, _Size, _Bytes, _Size),
     "read_sheet": (ctypes.c_char_p, _Size, _Words, _Size, _Words, _Polynomial),
@@ -232,6 +237,37 @@ def chain(m, f, area=None):
     _answered(refused)
     parts, tries, price = numbers
     return Chain([part(words, i) for i in range(parts)], tries, price)
+
+
+def count_chains(m, f):
+    """The number of f's complete chains that are normal: no part splits, and all but the leftmost have constant term 0."""
+    number = _Size()
+    _answered(_desk.desk_count_chains(_number(m), _polynomial(f), number))
+    return number.value
+
+
+def nth_chain(m, f, j, area=None):
+    """The parts of f's j-th complete chain, from 0, left to right, and its price.
+
+    The chains are ordered by the degrees of their parts read from the right, the part next to x first: the smaller degree at
+    the first difference comes first. The 0th has the parts and the price of chain(m, f).
+    A list of words given as the area is written as 02 says, after a refusal too.
+    """
+    words = _area([0] * WORDS if area is None else area)
+    numbers = _NthNumbers()
+    refused = _desk.desk_nth_chain(_number(m), _polynomial(f), _number(j, _Size), words, len(words), numbers)
+    if area is not None:
+        area[:] = words
+    _answered(refused)
+    parts, price = numbers
+    return NthChain([part(words, i) for i in range(parts)], price)
+
+
+def chains(m, f):
+    """All of f's complete chains, one at a time, in the order of nth_chain; a refusal comes with the call."""
+    f = list(f)
+    number = count_chains(m, f)
+    return (nth_chain(m, f, j) for j in range(number))
 
 
 def part(area, i):

@@ -3,8 +3,9 @@
  *
  *     cc -O2 -Wl,-z,now -o target/examples/stack examples/stack.c target/staticlib/libdesk.a && target/examples/stack
  *
- * The requests are x^n and x^n + x at all degrees of g and h, and the sheet of g and h, modulo 101 and 2^32; the most that any
- * of them takes is printed. By -z,now memcpy is found before the first call, which would count as the function's own. */
+ * The requests are x^n and x^n + x at all degrees of g and h, each of their chains and the j after the last, and the sheet of g
+ * and h, modulo 101 and 2^32; the most that any of them takes is printed. By -z,now memcpy is found before the first call, which
+ * would count as the function's own. */
 #include <stdio.h>
 #include <string.h>
 #include <ucontext.h>
@@ -22,7 +23,7 @@ static uint8_t square[DESK_BYTES] = {[4 * 3] = 1};
 static desk_polynomial f, g, h, left, right;
 static uint32_t area[DESK_WORDS], change[2];
 static uint8_t sheet[DESK_SHEET];
-static size_t r, numbers[3];
+static size_t r, j, numbers[3];
 
 static void check(void) { desk_check(square, sizeof square, change, left, numbers); }
 static void compose(void) { desk_compose(m, g, h, left); }
@@ -33,6 +34,8 @@ static void change_pair(void) { desk_change_pair(m, g, h, 3, 2, left, right); }
 static void combine(void) { desk_combine(m, 3, 2, 5, 7, change); }
 static void undo(void) { desk_undo(m, 3, 2, change); }
 static void chain(void) { desk_chain(m, f, area, DESK_WORDS, numbers); }
+static void count_chains(void) { desk_count_chains(m, f, numbers); }
+static void nth_chain(void) { desk_nth_chain(m, f, j, area, DESK_WORDS, numbers); }
 static void part(void) { desk_part(area, DESK_WORDS, 0, numbers); }
 static void write_sheet(void) { desk_write_sheet(m, area, DESK_WORDS, sheet, DESK_SHEET); }
 static void read_sheet(void) { desk_read_sheet(sheet, DESK_SHEET, area, DESK_WORDS, change, left); }
@@ -43,8 +46,8 @@ static const struct {
 } functions[] = {
     {"desk_check", check}, {"desk_compose", compose}, {"desk_left_part", left_part}, {"desk_split", split},
     {"desk_change_polynomial", change_polynomial}, {"desk_change_pair", change_pair}, {"desk_combine", combine},
-    {"desk_undo", undo}, {"desk_chain", chain}, {"desk_part", part}, {"desk_write_sheet", write_sheet},
-    {"desk_read_sheet", read_sheet},
+    {"desk_undo", undo}, {"desk_chain", chain}, {"desk_count_chains", count_chains}, {"desk_nth_chain", nth_chain},
+    {"desk_part", part}, {"desk_write_sheet", write_sheet}, {"desk_read_sheet", read_sheet},
 };
 
 static size_t taken(void (*run)(void)) {
@@ -75,8 +78,12 @@ static size_t most_taken(void (*run)(void), uint32_t modulus) {
             memcpy(area + DESK_TERMS, h, sizeof h);
             write_sheet();
             for (f[1] = 0; f[1] < 2; f[1]++) {
-                size_t now = taken(run);
-                if (most < now) most = now;
+                size_t last = 0;
+                if (run == nth_chain) desk_count_chains(m, f, &last);
+                for (j = 0; j <= last; j++) {
+                    size_t now = taken(run);
+                    if (most < now) most = now;
+                }
             }
         }
     }

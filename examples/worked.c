@@ -1,5 +1,5 @@
-/* 01's worked polynomials, and others modulo 2^32, asked of all twelve functions. It is C and C++; worked.py asks the same and
- * prints the same. */
+/* 01's worked polynomials, 02's x^6, and others modulo 25 and 2^32, asked of all fourteen functions. It is C and C++; worked.py
+ * asks the same and prints the same. */
 #include <inttypes.h>
 #include <stdio.h>
 #include <string.h>
@@ -63,6 +63,40 @@ static void chain(const char *name, uint32_t m, const desk_polynomial f, uint32_
     if (!answered(name, desk_chain(m, f, area, count, numbers))) return;
     for (size_t i = 0; i < numbers[0]; i++) print_part(area, count, i);
     printf(", tries %zu, price %zu\n", numbers[1], numbers[2]);
+}
+
+static void count_chains(const char *name, uint32_t m, const desk_polynomial f) {
+    size_t number;
+    if (!answered(name, desk_count_chains(m, f, &number))) return;
+    printf(" %zu\n", number);
+}
+
+static void print_chain(const uint32_t *area, const size_t numbers[2]) {
+    for (size_t i = 0; i < numbers[0]; i++) print_part(area, DESK_WORDS, i);
+    printf(", price %zu\n", numbers[1]);
+}
+
+static void nth_chain(const char *name, uint32_t m, const desk_polynomial f, size_t j, uint32_t *area, size_t count) {
+    size_t numbers[2];
+    if (!answered(name, desk_nth_chain(m, f, j, area, count, numbers))) return;
+    print_chain(area, numbers);
+}
+
+/* The first chain whose part next to x has this degree, for a designer who would rather build that one there. */
+static void next_to_x(const char *name, uint32_t m, const desk_polynomial f, size_t degree) {
+    uint32_t area[DESK_WORDS];
+    size_t numbers[2], place[2];
+    printf("%s:", name);
+    for (size_t j = 0; desk_nth_chain(m, f, j, area, DESK_WORDS, numbers).number == 0; j++) {
+        desk_part(area, DESK_WORDS, numbers[0] - 1, place);
+        size_t n = place[1] - 1;
+        while (area[place[0] + n] == 0) n--;
+        if (n == degree) {
+            print_chain(area, numbers);
+            return;
+        }
+    }
+    printf(" none\n");
 }
 
 static void check(const char *name, uint32_t m, const desk_polynomial f, size_t count) {
@@ -164,6 +198,35 @@ static void chains(void) {
     chain("B, a word short", 101, B, area, DESK_WORDS - 1);
 }
 
+static void every_chain(void) {
+    static const desk_polynomial sixth = {0, 0, 0, 0, 0, 0, 1};
+    /* (x^3 - 3x)^2 - 2, and with y = x^2 also y^3 - 6y^2 + 9y - 2 */
+    static const desk_polynomial T = {99, 0, 9, 0, 95, 0, 1};
+    /* x^12 + 5x^9 modulo 25: two chains that differ in their number of parts and their price */
+    static const desk_polynomial U = {0, 0, 0, 0, 0, 0, 0, 0, 0, 5, 0, 0, 1};
+    uint32_t area[DESK_WORDS], before[DESK_WORDS];
+    count_chains("x^6, number of chains", 101, sixth);
+    nth_chain("x^6, chain 0", 101, sixth, 0, area, DESK_WORDS);
+    nth_chain("x^6, chain 1", 101, sixth, 1, area, DESK_WORDS);
+    memcpy(before, area, sizeof area);
+    nth_chain("x^6, chain 2, a word short", 101, sixth, 2, area, DESK_WORDS - 1);
+    same("x^6, area after that", before, area, sizeof area);
+    nth_chain("x^6, chain 2", 101, sixth, 2, area, DESK_WORDS);
+    part("x^6, part 0 after that", area, DESK_WORDS, 0);
+
+    chain("T, chain", 101, T, area, DESK_WORDS);
+    next_to_x("T, degree 3 next to x", 101, T, 3);
+    next_to_x("E, degree 2 next to x", 101, E, 2);
+
+    count_chains("U, number of chains", 25, U);
+    nth_chain("U, chain 0", 25, U, 0, area, DESK_WORDS);
+    nth_chain("U, chain 1", 25, U, 1, area, DESK_WORDS);
+
+    count_chains("H, number of chains", 2, H);
+    nth_chain("H, chain 0", 2, H, 0, area, DESK_WORDS);
+    count_chains("E, number of chains, m 9", 9, E);
+}
+
 static void limits(void) {
     desk_polynomial f, g = {0}, h;
     uint32_t area[DESK_WORDS];
@@ -252,6 +315,8 @@ static void whole_words(void) {
     uint8_t sheet[DESK_SHEET];
     chain("2^32, A, chain", m, A, area, DESK_WORDS);
     chain("2^32, N, chain", m, N, area, DESK_WORDS);
+    count_chains("2^32, A, number of chains", m, A);
+    count_chains("2^32, N, number of chains", m, N);
     write_sheet("2^32, N, sheet", m, area, DESK_WORDS, sheet);
     read_sheet("2^32, N, sheet read", sheet, DESK_SHEET, back);
     same("2^32, N, written and read", area, back, sizeof area);
@@ -271,6 +336,7 @@ int main(void) {
     pairs();
     changes();
     chains();
+    every_chain();
     limits();
     check("B, record", 101, B, DESK_BYTES);
     check("B, record, a byte short", 101, B, DESK_BYTES - 1);

@@ -1,4 +1,7 @@
-"""01's worked polynomials, and others modulo 2^32, asked of all operations of desk.py. It prints what worked.c prints."""
+"""01's worked polynomials, 02's x^6, and others modulo 25 and 2^32, asked of all operations of desk.py.
+
+It prints what worked.c prints.
+"""
 
 import struct
 
@@ -33,6 +36,10 @@ def two(pair):
 
 def chained(chain):
     return f"{two(chain.parts)}, tries {chain.tries}, price {chain.price}"
+
+
+def in_order(chain):
+    return f"{two(chain.parts)}, price {chain.price}"
 
 
 def checked(found):
@@ -92,6 +99,40 @@ def chains():
     say("H, chain", chained, desk.chain, 2, H, area)
     say("H, part 0", str, desk.part, area, 0)
     say("B, a word short", chained, desk.chain, 101, B, area[1:])
+
+
+def next_to_x(m, f, degree):
+    """The first chain whose part next to x has this degree, for a designer who would rather build that one there."""
+    return next((chain for chain in desk.chains(m, f) if len(chain.parts[-1]) - 1 == degree), None)
+
+
+def preferred(chain):
+    return in_order(chain) if chain else "none"
+
+
+def every_chain():
+    sixth, t, u = [0] * 6 + [1], [99, 0, 9, 0, 95, 0, 1], [0] * 9 + [5, 0, 0, 1]
+    area = [0] * desk.WORDS
+    say("x^6, number of chains", str, desk.count_chains, 101, sixth)
+    say("x^6, chain 0", in_order, desk.nth_chain, 101, sixth, 0, area)
+    say("x^6, chain 1", in_order, desk.nth_chain, 101, sixth, 1, area)
+    short = area[:-1]
+    say("x^6, chain 2, a word short", in_order, desk.nth_chain, 101, sixth, 2, short)
+    same("x^6, area after that", area[:-1], short)
+    say("x^6, chain 2", in_order, desk.nth_chain, 101, sixth, 2, area)
+    say("x^6, part 0 after that", str, desk.part, area, 0)
+
+    say("T, chain", chained, desk.chain, 101, t)
+    say("T, degree 3 next to x", preferred, next_to_x, 101, t, 3)
+    say("E, degree 2 next to x", preferred, next_to_x, 101, E, 2)
+
+    say("U, number of chains", str, desk.count_chains, 25, u)
+    say("U, chain 0", in_order, desk.nth_chain, 25, u, 0)
+    say("U, chain 1", in_order, desk.nth_chain, 25, u, 1)
+
+    say("H, number of chains", str, desk.count_chains, 2, H)
+    say("H, chain 0", in_order, desk.nth_chain, 2, H, 0)
+    say("E, number of chains, m 9", str, desk.count_chains, 9, E)
 
 
 def limits():
@@ -171,6 +212,8 @@ def whole_words():
     area, back = [0] * desk.WORDS, [0] * desk.WORDS
     say("2^32, A, chain", chained, desk.chain, m, A, area)
     say("2^32, N, chain", chained, desk.chain, m, n, area)
+    say("2^32, A, number of chains", str, desk.count_chains, m, A)
+    say("2^32, N, number of chains", str, desk.count_chains, m, n)
     sheet = say("2^32, N, sheet", written, desk.write_sheet, m, area)
     say("2^32, N, sheet read", read, desk.read_sheet, sheet, back)
     same("2^32, N, written and read", area, back)
@@ -201,6 +244,12 @@ def no_requests():
     no_request(ValueError, desk.undo, 101, (1, 1 << 32))
     no_request(ValueError, desk.undo, 101, (1, 0, 0))
     no_request(ValueError, desk.chain, 101, A, [1 << 32])
+    no_request(ValueError, desk.count_chains, 101, [-1, 0, 1])
+    no_request(ValueError, desk.nth_chain, 101, A, -1)
+    no_request(ValueError, desk.nth_chain, 101, A, 1 << 64)
+    no_request(ValueError, desk.nth_chain, 101, A, 0, [1 << 32])
+    no_request(TypeError, desk.nth_chain, 101, A, 0.0)
+    no_request(TypeError, desk.chains, 101, 7)
     no_request(ValueError, desk.part, [], -1)
     no_request(TypeError, desk.split, 101, [0.5, 0, 1], 2)
     no_request(TypeError, desk.split, 101, 7, 2)
@@ -215,6 +264,7 @@ if __name__ == "__main__":
     pairs()
     changes()
     chains()
+    every_chain()
     limits()
     records()
     sheets()

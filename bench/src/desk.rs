@@ -47,4 +47,13 @@ extern "C" {
         b: u32,
         out: *mut Polynomial,
     ) -> Refused;
+    pub fn desk_count_chains(m: u32, f: *const Polynomial, number: *mut usize) -> Refused;
+    pub fn desk_nth_chain(
+        m: u32,
+        f: *const Polynomial,
+        j: usize,
+        area: *mut u32,
+        count: usize,
+        numbers: *mut [usize; 2],
+    ) -> Refused;
 }

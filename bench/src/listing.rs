@@ -143,7 +143,8 @@ fn compose(m: u32, g: &Polynomial, h: &Polynomial) -> Polynomial {
     f.map(|x| x as u32)
 }
 
-fn planted(random: &mut Random, m: u32, degrees: &[usize]) -> Polynomial {
+/// A chain of these degrees, left to right.
+pub fn planted(random: &mut Random, m: u32, degrees: &[usize]) -> Polynomial {
     degrees[1..]
         .iter()
         .fold(monic(random, m, degrees[0], true), |f, &d| {

@@ -4,6 +4,7 @@
 // The loops are the desk's own, by index.
 #![allow(clippy::needless_range_loop, clippy::manual_is_multiple_of)]
 
+mod chains;
 mod change;
 mod compose;
 mod desk;
@@ -32,5 +33,6 @@ fn beside_plain() {
     split::run();
     compose::run();
     change::run();
+    chains::run();
     listing::run();
 }
