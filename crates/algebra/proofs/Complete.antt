@@ -19,7 +19,7 @@ use native.Mathlib.Omega.{arith}
 use mathlib.Core.Logic.{_⊎_, inl, inr}
 use lib.ListN.{length}
 use Rattle.algebra.specs.Number.{Invertible}
-use Rattle.algebra.specs.Polynomial.{coef, plus, scaled, value, degree, Same, Monic, Reduced, reduced, Held, limit, terms}
+use Rattle.algebra.specs.Polynomial.{coef, plus, scaled, value, degree, Same, Monic, Reduced, reduced, Held, terms}
 use Rattle.algebra.specs.Pair.{Pair, Normal, NormalPair, SplitsRight, Unsplit}
 use Rattle.algebra.specs.Change.{Changed, ChangedRight}
 use Rattle.algebra.specs.Chain.{Part, Chain, whole, step, composed, part, degrees, product, price, Carried, leftmost, hand-on}
@@ -39,9 +39,6 @@ pub data Cut (m : ℕ) : ℕ → List ℕ → List (List ℕ) → Type 0 where
   one : {n : ℕ} {f : List ℕ} → 2 ≤ n → Monic m n f → Reduced m f → Unsplit m f → Cut m n f (f ∷ [])
   more : {n r s : ℕ} {f g h : List ℕ} {parts : List (List ℕ)} → 2 ≤ r → 2 ≤ s → r * s ≡ n
       → NormalPair m f r s g h → Unsplit m h → Cut m r g parts → Cut m n f (h ∷ parts)
-
-pub cut-some : {m n : ℕ} {f : List ℕ} → Cut m n f [] → ⊥
-cut-some c = elim c [ ]
 
 module _ {m : ℕ} (two : 2 ≤ m) where
   pos : 0 < m

@@ -27,7 +27,7 @@ use Rattle.algebra.specs.Every.{CompleteChain, Earlier, chain-at, Lists,
 use Rattle.algebra.proofs.Reduction.{degree-monic}
 use Rattle.algebra.proofs.Pairs.{normalised}
 use Rattle.algebra.proofs.Chains as C
-use Rattle.algebra.proofs.Lists.{earlier-not, earlier-first, earlier-more, earlier-apart, earlier-here, lists-unique, lists-as, lists-none, lists-one, lists-append, lists-before, lists-earlier}
+use Rattle.algebra.proofs.Lists.{earlier-first, earlier-more, earlier-apart, earlier-here, lists-unique, lists-as, lists-none, lists-one, lists-append, lists-before, lists-earlier}
 use Rattle.algebra.proofs.Complete.{Chainable, low, degree-is, left-chainable, Cut, one, more, cut-complete, complete-cut, complete-one, complete-more, right-degree, chain-is-complete, chain-earliest}
 
 -- the complete chains whose rightmost part has degree s

@@ -3,7 +3,7 @@
 --   CarriedTo             the change carried along a chain; degrees, number of parts and price stay
 --   every-carried         there are as many
 --   nth-carried           the j-th is the j-th of f, carried
-use mathlib.Core.Path.{_≡_, refl, sym, ap, subst, _∙_}
+use mathlib.Core.Path.{_≡_, refl, sym, ap, _∙_}
 use mathlib.Core.List.{List, [], _∷_}
 use Prim.Native.Nat.{ℕ, zero, suc, _<_}
 use native.Mathlib.Nat as N

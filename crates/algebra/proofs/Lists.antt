@@ -1,6 +1,6 @@
 -- Lists of chains in order.
 --
---   earlier-not, earlier-back            no chain is earlier than itself; not both ways
+--   earlier-not                          no chain is earlier than itself
 --   earlier-trans                        of three
 --   earlier-first, earlier-more          a smaller rightmost degree; the same part before both
 --   earlier-apart, earlier-here          and back; at the rightmost part
@@ -9,11 +9,11 @@
 --   lists-earlier                        what stands before place j of it
 --   lists-as, lists-none, lists-one      said otherwise; of nothing; of one
 --   lists-append                         one list after another
---   before-at, lists-before              a part put before each chain
+--   lists-before                         a part put before each chain
 use mathlib.Core.Path.{_≡_, refl, sym, ap, ap₂, subst, _∙_}
 use mathlib.Core.Logic.{_⊎_, inl, inr}
 use mathlib.Core.List.{List, [], _∷_, _++_, map}
-use Prim.Native.Nat.{ℕ, zero, suc, _+_, _-_, _≤_, _<_}
+use Prim.Native.Nat.{ℕ, zero, suc, _+_, _-_, _<_}
 use native.Mathlib.Nat as N
 use native.Mathlib.Omega.{arith}
 use native.Mathlib.Decide.{decLt}
@@ -26,7 +26,7 @@ use Rattle.algebra.specs.Every.{Earlier, chain-at, Lists}
 pub earlier-not : (x : List (List ℕ)) → Earlier x x → ⊥
 earlier-not x e = N.lt-irrefl _ (e .smaller)
 
-pub earlier-back : {x y : List (List ℕ)} → Earlier x y → Earlier y x → ⊥
+earlier-back : {x y : List (List ℕ)} → Earlier x y → Earlier y x → ⊥
 earlier-back {x} {y} a b = go (decLt (a .place) (b .place)) (decLt (b .place) (a .place))
   where
     go : Dec (a .place < b .place) → Dec (b .place < a .place) → ⊥
@@ -205,7 +205,7 @@ lists-append P Q {l} {k} p q later = record { each = λ j b. each j b (decLt j (
         subst (λ (s : ℕ). Earlier (chain-at (l ++ k) i) (chain-at (l ++ k) s)) e
         (subst (λ (s : ℕ). Earlier (chain-at (l ++ k) s) (chain-at (l ++ k) (length l + t))) f (rw (in-second v, in-second t) (q .ordered v t (omega arith) u)))
 
-pub before-at : (h : List ℕ) (l : List (List (List ℕ))) (j : ℕ) → j < length l → chain-at (map (λ x. h ∷ x) l) j ≡ h ∷ chain-at l j
+before-at : (h : List ℕ) (l : List (List (List ℕ))) (j : ℕ) → j < length l → chain-at (map (λ x. h ∷ x) l) j ≡ h ∷ chain-at l j
 before-at h [] j b = absurd (N.not-suc-le-zero b)
 before-at h (x ∷ l) zero b = refl
 before-at h (x ∷ l) (suc j) b = before-at h l j (N.le-of-suc-le-suc b)

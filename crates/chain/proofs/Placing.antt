@@ -19,7 +19,6 @@ use lib.ListN.{length, drop}
 use Rattle.algebra.specs.Polynomial.{terms, limit, Monic, Reduced}
 use Rattle.algebra.specs.Chain.{Chain, whole, step, price, cost}
 use Rattle.algebra.proofs.Chains.{sum-within, chain-length, chain-price}
-use Rattle.algebra.proofs.Reduction.{degree-monic}
 use Rattle.area.specs.Area.{most-parts, put-at, laid}
 use Rattle.area.proofs.Laying.{Full, laid-none, laid-more, put-next}
 use Rattle.chain.specs.Chaining.{FirstSplit, NoSplit, ChainedIn}

@@ -7,9 +7,9 @@
 --                                  from the right, and degrees, tries and price agree
 --   outcome-changed                demand 3: the changed f is answered exactly if f is, and refused by 5 exactly if f is
 --   chain-carried                  demand 3: both together, for any f that the chain accepts
-use mathlib.Core.Path.{_≡_, refl, sym, ap, ap₂, subst, _∙_}
+use mathlib.Core.Path.{_≡_, sym, ap, ap₂, subst, _∙_}
 use mathlib.Core.Logic.{_↔_}
-use mathlib.Core.List.{List, [], _∷_}
+use mathlib.Core.List.{List, []}
 use Prim.Native.Nat.{ℕ, suc, _≤_, _<_}
 use native.Mathlib.Omega.{arith}
 use lib.ListN.{length}

@@ -7,7 +7,7 @@
 --   below-none, below-pass, below-take     none is below 2; none at s; those at s are the chains of the left part
 --   below-few                          the count fits a word
 --   counted-one, counted-all           past n/2: none was found, and f is its only chain; or those that were found are all
-use mathlib.Core.Path.{_≡_, refl, sym, ap, _∙_}
+use mathlib.Core.Path.{_≡_, refl, _∙_}
 use mathlib.Core.Bool.{Bool, true, false, not, false≢true}
 use mathlib.Core.List.{List, [], _∷_, _++_, map}
 use Prim.Native.Nat.{ℕ, _+_, _*_, _/_, _%_, _≤_, _<_}

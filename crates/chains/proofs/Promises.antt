@@ -35,7 +35,7 @@ use Rattle.refusal.specs.declared.Outcome.{Outcome}
 use Rattle.refusal.specs.declared.Outcome.the-variants.{Answered, Refused}
 use Rattle.refusal.proofs.Outcomes.{never}
 use Rattle.polynomial.specs.Checks.{check-one, Accepted}
-use Rattle.polynomial.proofs.Acceptance.{accepted-one, one-accepted, accepted-above, accepted-as, accepted-changed}
+use Rattle.polynomial.proofs.Acceptance.{accepted-one, one-accepted, accepted-as, accepted-changed}
 use Rattle.area.specs.Area.{most-parts, area-words, written, part-of}
 use Rattle.area.proofs.Reading.{handed-out, EachFills, part-fills, read-back, read-past}
 use Rattle.chain.specs.declared.Chained.{Chained}

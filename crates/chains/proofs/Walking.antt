@@ -4,13 +4,13 @@
 --   Gone m f s j i                   all chains with a rightmost degree below s come before the j-th, and i more
 --   gone-none, gone-pass, gone-take  none is below 2; none at s; those at s come before it too
 --   next-place, more-price           the j-th chain of f fits the area and a word: there is a place for the right part
---   laid-more                        the i-th chain of the left part, and the right part in that place: the j-th chain of f
+--   reached-more                        the i-th chain of the left part, and the right part in that place: the j-th chain of f
 --   passed-all                       past n/2: those that were passed are all
---   passed-one, laid-one             none was passed, and f is its only chain: not the j-th; the j-th
+--   passed-one, reached-one             none was passed, and f is its only chain: not the j-th; the j-th
 use mathlib.Core.Path.{_≡_, refl, sym, ap, subst, _∙_}
 use mathlib.Core.Bool.{true, false, false≢true}
 use mathlib.Core.List.{List, [], _∷_, _++_}
-use Prim.Native.Nat.{ℕ, suc, _+_, _*_, _-_, _/_, _≤_, _<_}
+use Prim.Native.Nat.{ℕ, _+_, _*_, _-_, _/_, _≤_, _<_}
 use native.Mathlib.Nat as N
 use native.Mathlib.Omega.{arith}
 use native.Mathlib.Numerals.{add-one}
@@ -26,7 +26,7 @@ use Rattle.area.proofs.Laying.{Full, laid-none, put-next}
 use Rattle.area.proofs.Reading.{part-fills, fills-full}
 use Rattle.chain.proofs.Placing.{places-enough}
 use Rattle.chains.specs.declared.Reach.{Reach}
-use Rattle.chains.specs.Walking.{Rightmost, Counted, NthIn, Passed, Walked, laid, passed}
+use Rattle.chains.specs.Walking.{Rightmost, Counted, NthIn, Passed, Walked, reached, passed}
 use Rattle.chains.proofs.Counting.{Below, below-none, below-pass, below-take, none-listed, counted-one, counted-all}
 
 -- every part fills its place
@@ -67,8 +67,8 @@ module _ {m n : ℕ} {f : List ℕ} (t : Chainable m n f) where
 
 -- what the walk says
 module _ {m j : ℕ} {f xs ys : List ℕ} where
-  walked-laid : {k c : ℕ} {a : Reach} → a ≡ laid k c → NthIn m f j xs ys k c → Walked m f j xs ys (a .found) (a .number) (a .parts) (a .price)
-  walked-laid e q = rw e (record { yes = λ z. q; no = λ z. absurd (false≢true (sym z)) })
+  walked-reached : {k c : ℕ} {a : Reach} → a ≡ reached k c → NthIn m f j xs ys k c → Walked m f j xs ys (a .found) (a .number) (a .parts) (a .price)
+  walked-reached e q = rw e (record { yes = λ z. q; no = λ z. absurd (false≢true (sym z)) })
 
   walked-passed : {c : ℕ} {a : Reach} → a ≡ passed c → Passed m f j xs ys c → Walked m f j xs ys (a .found) (a .number) (a .parts) (a .price)
   walked-passed e q = rw e (record { yes = λ z. absurd (false≢true z); no = λ z. q })
@@ -82,9 +82,9 @@ module _ {m n s j i : ℕ} {f g h : List ℕ} (t : Chainable m n f) (p : Gone m 
   next-place = omega (arith, q .count-is, nth-within t (more .complete) .0)
 
   -- the right part goes there
-  reached-more : {d : ℕ} → d ≡ cost h → NthIn m f j xs (put-at ys k h) (k + 1) (c + d)
+  more-in : {d : ℕ} → d ≡ cost h → NthIn m f j xs (put-at ys k h) (k + 1) (c + d)
   unfolding price
-  reached-more e = record {
+  more-in e = record {
     parts = h ∷ q .parts;
     nth = more;
     count-is = omega (arith, q .count-is);
@@ -99,8 +99,8 @@ module _ {m n s j i : ℕ} {f g h : List ℕ} (t : Chainable m n f) (p : Gone m 
   more-price e = omega (arith, e, q .cost-is, nth-within t (more .complete) .1)
 
   -- so the j-th chain of f is laid over the area as it was
-  pub laid-more : {xs₀ zs : List ℕ} {d : ℕ} {a : Reach} → xs ≡ xs₀ → d ≡ cost h → zs ≡ put-at ys k h → a ≡ laid (k + 1) (c + d) → Walked m f j xs₀ zs (a .found) (a .number) (a .parts) (a .price)
-  laid-more {zs = zs} {d = d} same e put is = walked-laid is (subst (λ (l : List ℕ). NthIn m f j l zs (k + 1) (c + d)) same (subst (λ (l : List ℕ). NthIn m f j xs l (k + 1) (c + d)) (sym put) (reached-more e)))
+  pub reached-more : {xs₀ zs : List ℕ} {d : ℕ} {a : Reach} → xs ≡ xs₀ → d ≡ cost h → zs ≡ put-at ys k h → a ≡ reached (k + 1) (c + d) → Walked m f j xs₀ zs (a .found) (a .number) (a .parts) (a .price)
+  reached-more {zs = zs} {d = d} same e put is = walked-reached is (subst (λ (l : List ℕ). NthIn m f j l zs (k + 1) (c + d)) same (subst (λ (l : List ℕ). NthIn m f j xs l (k + 1) (c + d)) (sym put) (more-in e)))
 
 module _ {m n s j i : ℕ} {f xs ys : List ℕ} {a : Reach} (t : Chainable m n f) (half : n / 2 < s) (p : Gone m f s j i) (same : ys ≡ xs) where
   -- those that were passed are all
@@ -112,8 +112,8 @@ module _ {m n s j i : ℕ} {f xs ys : List ℕ} {a : Reach} (t : Chainable m n f
   passed-one l k e = walked-passed e (record { counted = counted-one t half (subst (λ (k : ℕ). Below m f s k) (omega (arith, p .is)) (p .below)); most = omega arith; area = same })
 
   -- and f itself is the first
-  pub laid-one : {zs : List ℕ} {d : ℕ} → j ≤ i → j ≤ 0 → d ≡ cost f → zs ≡ put-at ys 0 f → a ≡ laid 1 d → Walked m f j xs zs (a .found) (a .number) (a .parts) (a .price)
-  laid-one {zs} {d} l z e put is = walked-laid is (subst (λ (l : List ℕ). NthIn m f j l zs 1 d) same (subst (λ (l : List ℕ). NthIn m f j ys l 1 d) (sym put) (one-in t half none z ys e)))
+  pub reached-one : {zs : List ℕ} {d : ℕ} → j ≤ i → j ≤ 0 → d ≡ cost f → zs ≡ put-at ys 0 f → a ≡ reached 1 d → Walked m f j xs zs (a .found) (a .number) (a .parts) (a .price)
+  reached-one {zs} {d} l z e put is = walked-reached is (subst (λ (l : List ℕ). NthIn m f j l zs 1 d) same (subst (λ (l : List ℕ). NthIn m f j ys l 1 d) (sym put) (one-in t half none z ys e)))
     where
       none : Below m f s 0
       none = subst (λ (k : ℕ). Below m f s k) (omega (arith, p .is)) (p .below)

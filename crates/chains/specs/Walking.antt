@@ -6,7 +6,7 @@
 --   NthIn m f j xs ys k c           the j-th chain of f stands in the first k places of ys, with its price c
 --   Passed m f j xs ys c            f has c complete chains, which are not more than j, and nothing was written
 --   Walked m f j xs ys b p k c      what the walk to the j-th chain finds
---   laid k c, passed p              how it says so
+--   reached k c, passed p            how it says so
 use mathlib.Core.Path.{_≡_}
 use mathlib.Core.Bool.{Bool, true, false}
 use mathlib.Core.List.{List, _++_}
@@ -58,8 +58,8 @@ pub record Walked (m : ℕ) (f : List ℕ) (j : ℕ) (xs ys : List ℕ) (found :
   pub no : found ≡ false → Passed m f j xs ys number
 
 -- the j-th chain was reached
-abbrev pub laid : ℕ → ℕ → Reach
-laid count cost = record { found = true; number = 0; parts = count; price = cost }
+abbrev pub reached : ℕ → ℕ → Reach
+reached count cost = record { found = true; number = 0; parts = count; price = cost }
 
 -- there is no j-th
 abbrev pub passed : ℕ → Reach

@@ -5,7 +5,7 @@ ghost use lib.ListN.{length};
 ghost use Rattle.polynomial.specs.Moduli.{modulus};
 ghost use Rattle.area.specs.Area.{area-words};
 ghost use Rattle.chain.specs.Chaining.{ChainAsked};
-ghost use Rattle.chains.specs.Walking.{RightmostAt, Counted, Walked, laid as laid-of, passed as passed-of};
+ghost use Rattle.chains.specs.Walking.{RightmostAt, Counted, Walked, reached as reached-of, passed as passed-of};
 ghost use Rattle.chains.specs.Choosing.{unnumbered as unnumbered-of, unchosen as unchosen-of, NumberOf, NthOf};
 use binomial::ENTRIES;
 use polynomial::Coefficients;
@@ -94,8 +94,8 @@ struct Reach {
 }
 
 // The j-th chain was reached.
-fn laid(parts: usize, price: usize) -> Reach
-    ensures { λ a. ⌜ a ≡ laid-of parts price ⌝ }
+fn reached(parts: usize, price: usize) -> Reach
+    ensures { λ a. ⌜ a ≡ reached-of parts price ⌝ }
 {
     Reach {
         found: true,
@@ -140,7 +140,7 @@ fn walk(
             if c.found {
                 let right = a.right;
                 area::put(area, c.parts, &right);
-                return laid(c.parts + 1, c.price + chain::cost(s));
+                return reached(c.parts + 1, c.price + chain::cost(s));
             }
             rest -= c.number;
         }
@@ -153,7 +153,7 @@ fn walk(
         return passed(1);
     }
     area::put(area, 0, &f);
-    laid(1, chain::cost(n))
+    reached(1, chain::cost(n))
 }
 
 // Zero beside an outcome.

@@ -22,7 +22,7 @@ use borrow.Author.Tests.{lt-ltb, le-ltb}
 use lib.ListN.{length, replicate, length-replicate}
 use lib.Seq.{ext-getD}
 use Rattle.algebra.specs.Number.{table}
-use Rattle.algebra.specs.Polynomial.{coef, limit, terms, degree, after, reduced, Same, Monic, Held}
+use Rattle.algebra.specs.Polynomial.{coef, limit, terms, degree, reduced, Same, Monic, Held}
 use Rattle.algebra.specs.Chain.{composed, degrees, product}
 use Rattle.algebra.proofs.Numbers.{table-length, table-below, table-ext}
 use Rattle.algebra.proofs.Highest.{degree-below}

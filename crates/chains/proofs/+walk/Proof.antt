@@ -11,13 +11,13 @@ use Rattle.algebra.proofs.Chains.{sum-within}
 use Rattle.algebra.proofs.Complete.{degree-is, right-degree}
 use Rattle.area.specs.Area.{most-parts, area-words}
 use Rattle.chains.proofs.Counting.{chainable, left-asked}
-use Rattle.chains.proofs.Walking.{Gone, gone-none, gone-pass, gone-take, next-place, more-price, laid-more, passed-all, passed-one, laid-one}
+use Rattle.chains.proofs.Walking.{Gone, gone-none, gone-pass, gone-take, next-place, more-price, reached-more, passed-all, passed-one, reached-one}
 use Rattle.chains.proofs.walk.Reads as walk
 use Rattle.chains.proofs.walk.Kinds as walk-kinds
 use Rattle.chains.proofs.+walk.Lts-walk as walk-lts
 use Rattle.area.proofs.put.Reads as put-reads
 use Rattle.chain.proofs.cost.Reads as cost-reads
-use Rattle.chains.proofs.laid.Reads as laid-reads
+use Rattle.chains.proofs.reached.Reads as reached-reads
 use Rattle.chains.proofs.passed.Reads as passed-reads
 use Rattle.chains.proofs.rightmost.Reads as rightmost-reads
 use Rattle.chains.proofs.+walk.{statement}
@@ -34,7 +34,7 @@ abbrev walk-below : ℕ → In 2 walk-kinds.ps
 walk-below t = and 2 walk-kinds.ps (falls 2 walk-kinds.ps _<_ μ-walk t) walk.Pre
 
 abbrev walk-claims : ℕ → walk-lts.Claims
-walk-claims t = (rightmost-reads.Asked, rightmost-reads.Learnt, walk-below t, walk.Post, put-reads.Asked, put-reads.Learnt, cost-reads.Asked, cost-reads.Learnt, laid-reads.Asked, laid-reads.Learnt, passed-reads.Asked, passed-reads.Learnt)
+walk-claims t = (rightmost-reads.Asked, rightmost-reads.Learnt, walk-below t, walk.Post, put-reads.Asked, put-reads.Learnt, cost-reads.Asked, cost-reads.Learnt, reached-reads.Asked, reached-reads.Learnt, passed-reads.Asked, passed-reads.Learnt)
 
 -- nothing is written before the j-th chain is reached
 abbrev walk-Inv-loop : walk-lts.InvT-loop
@@ -65,9 +65,9 @@ walk-put-requires t c κs =
     let q = c .before .before .before .before .before .before .walk .ensures .yes (c .before .before .before .if2 .taken) in
     (omega (arith, next-place k (i .1) z q), omega (arith, ap length (i .0), p .1), z .pair .reduced-right .long)
 
-walk-add-laid : (t : ℕ) → walk-lts.Need-add-laid (walk-claims t) (walk-at t) walk.Post walk-Inv-loop walk-μ-loop
+walk-add-reached : (t : ℕ) → walk-lts.Need-add-reached (walk-claims t) (walk-at t) walk.Post walk-Inv-loop walk-μ-loop
 unfolding most-parts
-walk-add-laid t c =
+walk-add-reached t c =
     let i = c .before .before .before .before .before .before .before .before .before .before .before .before .before .before .before .before .loop .inv in
     let p = c .before .before .before .before .before .before .before .before .before .before .before .before .before .before .before .before .before .before .pre .1 in
     let k = chainable (p .0) in
@@ -76,9 +76,9 @@ walk-add-laid t c =
     omega (arith, next-place k (i .1) z q)
 
 -- the price is at most n
-walk-add-laid-2 : (t : ℕ) → walk-lts.Need-add-laid-2 (walk-claims t) (walk-at t) walk.Post walk-Inv-loop walk-μ-loop
+walk-add-reached-2 : (t : ℕ) → walk-lts.Need-add-reached-2 (walk-claims t) (walk-at t) walk.Post walk-Inv-loop walk-μ-loop
 unfolding limit
-walk-add-laid-2 t c =
+walk-add-reached-2 t c =
     let i = c .before .before .before .before .before .before .before .before .before .before .before .before .before .before .before .before .before .before .loop .inv in
     let p = c .before .before .before .before .before .before .before .before .before .before .before .before .before .before .before .before .before .before .before .before .pre .1 in
     let k = chainable (p .0) in
@@ -96,7 +96,7 @@ walk-returns t c =
     let z = c .before .before .before .before .before .before .before .before .before .before .before .before .before .before .before .before .before .rightmost .ensures .yes (c .before .before .before .before .before .before .before .before .before .before .before .before .before .before .before .before .if1 .taken) in
     let q = c .before .before .before .before .before .before .before .before .before .before .before .before .before .walk .ensures .yes (c .before .before .before .before .before .before .before .before .before .before .if2 .taken) in
     let d = c .before .before .cost .ensures _ (right-degree (k .modulus) (z .pair)) in
-    laid-more k (i .1) z q (i .0) d (c .before .before .before .before .before .before .put .ensures) (c .laid .ensures)
+    reached-more k (i .1) z q (i .0) d (c .before .before .before .before .before .before .put .ensures) (c .reached .ensures)
 
 walk-sub-rest : (t : ℕ) → walk-lts.Need-sub-rest (walk-claims t) (walk-at t) walk.Post walk-Inv-loop walk-μ-loop
 walk-sub-rest t c =
@@ -134,7 +134,7 @@ walk-returns-3 : (t : ℕ) → walk-lts.Need-returns-3 (walk-claims t) (walk-at 
 walk-returns-3 t c =
     let k = chainable (c .before .before .before .before .before .before .pre .1 .0) in
     let i = c .before .before .before .before .loop .inv in
-    passed-one k (omega arith) (i .1) (i .0) (c .before .before .if3 .left) (c .before .if4 .taken) (c .passed2 .ensures)
+    passed-one k (omega arith) (i .1) (i .0) (c .before .before .if3 .left) (omega (arith, c .before .if4 .taken)) (c .passed2 .ensures)
 
 walk-put-requires-2 : (t : ℕ) → walk-lts.Need-put-requires-2 (walk-claims t) (walk-at t) walk.Post walk-Inv-loop walk-μ-loop
 unfolding area-words most-parts terms limit
@@ -148,7 +148,7 @@ walk-returns-4 : (t : ℕ) → walk-lts.Need-returns-4 (walk-claims t) (walk-at 
 walk-returns-4 t c =
     let k = chainable (c .before .before .before .before .before .before .before .before .before .before .before .before .pre .1 .0) in
     let i = c .before .before .before .before .before .before .before .before .before .before .loop .inv in
-    laid-one k (omega arith) (i .1) (i .0) (c .before .before .before .before .before .before .before .before .if3 .left) (c .before .before .before .before .before .before .before .if4 .left) (c .before .cost2 .ensures _ (degree-is k)) (c .before .before .before .before .put2 .ensures) (c .laid2 .ensures)
+    reached-one k (omega arith) (i .1) (i .0) (c .before .before .before .before .before .before .before .before .if3 .left) (omega (arith, c .before .before .before .before .before .before .before .if4 .left)) (c .before .cost2 .ensures _ (degree-is k)) (c .before .before .before .before .put2 .ensures) (c .reached2 .ensures)
 
 pub +walk-spec : {M : Type 1} → statement M
 unfolding terms limit most-parts area-words
@@ -167,9 +167,9 @@ unfolding terms limit most-parts area-words
     (walk-walk-requires t)
     (λ c. search needs)
     (walk-put-requires t)
-    (walk-add-laid t)
+    (walk-add-reached t)
     (λ c κs. search needs)
-    (walk-add-laid-2 t)
+    (walk-add-reached-2 t)
     (λ c κs. search needs)
     (λ c. search needs)
     (walk-returns t)

@@ -13,7 +13,8 @@ returns c = let p = c .before .pre in undivided (chainable (p .0)) (p .2) (c .if
 split-at-requires : tie.Need-split-at-requires
 split-at-requires c κs =
     let p = c .before .pre in
-    record { modulus = p .0 .modulus; degrees = half-degrees (p .1) (c .if1 .left) (p .2) (p .0 .whole .within); whole = p .0 .whole; binomials = p .0 .binomials }
+    let d = half-degrees (p .1) (c .if1 .left) (p .2) (p .0 .whole .within) in
+    record { modulus = p .0 .modulus; degrees = record { product = omega (arith, d .product); within = d .within; two-left = omega (arith, d .two-left); two-right = omega (arith, d .two-left) }; whole = p .0 .whole; binomials = p .0 .binomials }
 
 -- f does not split at s
 returns-2 : tie.Need-returns-2
