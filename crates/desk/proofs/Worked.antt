@@ -1,9 +1,9 @@
--- The starred cases of 01 hold, all of them, and what 02 works out beside them.
+-- The starred cases of 01 and x^6 of request No. 5 hold, all of them.
 --
 --   same-check, monic-check     a claim on closed lists by computation
 --   A-at-2, B-at-3, I-none      no pair, no left part: the forced one differs from f
+--   sextic                      the two chains of a polynomial of degree 6 that has a pair at 2 and one at 3
 --   starred-hold                the whole table
---   every-chain-holds           request No. 5's x^6: two chains, in order
 use mathlib.Core.Path.{_≡_, refl, sym, ap, _∙_}
 use mathlib.Core.List.{List, [], _∷_, map}
 use Prim.Native.Nat.{ℕ, zero, suc, _*_, _-_, _%_, _≤_, _<_}
@@ -31,7 +31,7 @@ use Rattle.polynomial.specs.Moduli.{machine-words, smallest, largest, check-mod
 use Rattle.polynomial.specs.Checks.{offending, check-coefficients, check-degree, check-leading, check-polynomial, check-one}
 use Rattle.polynomial.proofs.Acceptance.{one-accepted}
 use Rattle.chains.specs.Choosing as choosing
-use Rattle.desk.specs.Cases.{padded, nth-chain, Holds, All, none, _and_, number-is, nth-is, nth-is-refused, A, B, starred, x², x³, x⁶, every-chain}
+use Rattle.desk.specs.Cases.{padded, has-chains, nth-chain, nth-refused, Holds, All, none, _and_, number-is, nth-is, nth-is-refused, A, B, starred, x², x³, x⁶}
 use Rattle.desk.proofs.Padded.{Taken, taken, pair-padded, chainable-padded, split-found, split-none, split-shared, left-found, left-none, changes-to, composes-to}
 
 -- lists of at most k places that agree there
@@ -90,27 +90,6 @@ I-none = left-refutes 2 (omega arith) {g = 1 ∷ 1 ∷ 1 ∷ []} (omega arith) r
 abbrev places : ℕ
 places = 24
 
--- each row says which polynomials the desk takes, with their degrees; an inverse where one is needed; and by computation that they compose
-pub starred-hold : All starred
-unfolding after plus times scaled table padded limit terms degree highest machine-words smallest largest offending check-modulus check-coefficients check-degree check-leading check-polynomial check-one
-starred-hold =
-    split-found (taken 101 6 _ refl refl refl) (taken 101 3 _ refl refl refl) (taken 101 2 _ refl refl refl) refl (record { inverse = 34; unit = refl }) (record { constant = refl }) (same-check 101 places _ _ refl refl refl) and
-    split-none (taken 101 6 _ refl refl refl) (omega arith) (omega arith) refl (record { inverse = 51; unit = refl }) A-at-2 and
-    split-none (taken 101 6 _ refl refl refl) (omega arith) (omega arith) refl (record { inverse = 34; unit = refl }) B-at-3 and
-    split-found (taken 101 6 _ refl refl refl) (taken 101 2 _ refl refl refl) (taken 101 3 _ refl refl refl) refl (record { inverse = 51; unit = refl }) (record { constant = refl }) (same-check 101 places _ _ refl refl refl) and
-    left-found (taken 101 6 _ refl refl refl) (taken 101 2 _ refl refl refl) (taken 101 3 _ refl refl refl) refl (same-check 101 places _ _ refl refl refl) and
-    split-found (taken 4 9 _ refl refl refl) (taken 4 3 _ refl refl refl) (taken 4 3 _ refl refl refl) refl (record { inverse = 3; unit = refl }) (record { constant = refl }) (same-check 4 places _ _ refl refl refl) and
-    changes-to (taken 101 4 _ refl refl refl) (taken 101 4 _ refl refl refl) refl refl (record { inverse = 1; unit = refl }) (record { same = same-check 101 places _ _ refl refl refl }) and
-    split-found (taken 101 4 _ refl refl refl) (taken 101 2 _ refl refl refl) (taken 101 2 _ refl refl refl) refl (record { inverse = 51; unit = refl }) (record { constant = refl }) (same-check 101 places _ _ refl refl refl) and
-    changes-to (taken 5 4 _ refl refl refl) (taken 5 4 _ refl refl refl) refl refl (record { inverse = 3; unit = refl }) (record { same = same-check 5 places _ _ refl refl refl }) and
-    split-found (taken 5 4 _ refl refl refl) (taken 5 2 _ refl refl refl) (taken 5 2 _ refl refl refl) refl (record { inverse = 3; unit = refl }) (record { constant = refl }) (same-check 5 places _ _ refl refl refl) and
-    split-shared {s = 2} (taken 2 4 _ refl refl refl) (omega arith) (omega arith) refl (λ c. let z = c .only-one 2 (N.dvd-refl 2) (N.dvd-refl 2) in omega arith) and
-    left-found (taken 2 4 _ refl refl refl) (taken 2 2 _ refl refl refl) (taken 2 2 _ refl refl refl) refl (same-check 2 places _ _ refl refl refl) and
-    left-none (taken 2 4 _ refl refl refl) (taken 2 2 _ refl refl refl) (omega arith) refl I-none and
-    composes-to (taken 2 2 _ refl refl refl) (taken 2 2 _ refl refl refl) (taken 2 4 _ refl refl refl) refl (same-check 2 places _ _ refl refl refl) and
-    composes-to (taken 2 2 _ refl refl refl) (taken 2 2 _ refl refl refl) (taken 2 4 _ refl refl refl) refl (same-check 2 places _ _ refl refl refl) and
-    none
-
 -- what has a degree below 4 does not split, and is its only chain
 low-unsplit : {m n : ℕ} {f : List ℕ} → n < 4 → Chainable m n f → Unsplit m f
 low-unsplit {n = n} l t = unsplit-at (t .modulus) (t .whole .reduced) (t .whole .monic) (λ s w. omega (arith, l, w .degrees, N.mul-le-mul (w .two-left) (w .two-right)))
@@ -151,15 +130,44 @@ module _ (t : Taken 101 6 x⁶) (cube : Taken 101 3 x³) (square : Taken 101 2 x
   nth-holds : (j c : ℕ) (parts : List (List ℕ)) → NthChain 101 (padded x⁶) j (map padded parts) → price (map padded parts) ≡ c → Holds (nth-chain 101 x⁶ j parts c)
   nth-holds j c parts k e = nth-is {j = j} {c = c} {parts = parts} (λ xs room. choosing.chosen {parts = map padded parts} room checked coprime k refl (rw (length-map parts padded, e)))
 
-  sextic-holds : All every-chain
-  sextic-holds =
-      number-is (choosing.numbered checked coprime two-chains refl) and
-      nth-holds 0 3 (x² ∷ x³ ∷ []) (E.at-nth whole two-chains (omega arith)) (prices .0) and
-      nth-holds 1 3 (x³ ∷ x² ∷ []) (E.at-nth whole two-chains (omega arith)) (prices .1) and
-      nth-is-refused {j = 2} Beyond (λ xs room. choosing.beyond room checked coprime two-chains (omega arith) refl refl) and
-      none
+  -- there are two, and no third
+  sixth-number : Holds (has-chains 101 x⁶ 2)
+  sixth-number = number-is (choosing.numbered checked coprime two-chains refl)
 
--- request No. 5's case: which polynomials the desk takes, by computation
-pub every-chain-holds : All every-chain
-unfolding padded limit terms degree highest machine-words smallest largest offending check-modulus check-coefficients check-degree check-leading check-polynomial check-one
-every-chain-holds = sextic-holds (taken 101 6 _ refl refl refl) (taken 101 3 _ refl refl refl) (taken 101 2 _ refl refl refl)
+  sixth-beyond : Holds (nth-refused 101 x⁶ 2 18)
+  sixth-beyond = nth-is-refused {j = 2} Beyond (λ xs room. choosing.beyond room checked coprime two-chains (omega arith) refl refl)
+
+  -- x^3 after x^2, then x^2 after x^3
+  sixth-first : Holds (nth-chain 101 x⁶ 0 (x² ∷ x³ ∷ []) 3)
+  sixth-first = nth-holds 0 3 (x² ∷ x³ ∷ []) (E.at-nth whole two-chains (omega arith)) (prices .0)
+
+  sixth-second : Holds (nth-chain 101 x⁶ 1 (x³ ∷ x² ∷ []) 3)
+  sixth-second = nth-holds 1 3 (x³ ∷ x² ∷ []) (E.at-nth whole two-chains (omega arith)) (prices .1)
+
+-- each row says which polynomials the desk takes, with their degrees; an inverse where one is needed; and by computation that they compose
+pub starred-hold : All starred
+unfolding after plus times scaled table padded limit terms degree highest machine-words smallest largest offending check-modulus check-coefficients check-degree check-leading check-polynomial check-one
+starred-hold =
+    let sixth : Taken 101 6 x⁶ = taken 101 6 _ refl refl refl in
+    let cube : Taken 101 3 x³ = taken 101 3 _ refl refl refl in
+    let square : Taken 101 2 x² = taken 101 2 _ refl refl refl in
+    split-found (taken 101 6 _ refl refl refl) (taken 101 3 _ refl refl refl) (taken 101 2 _ refl refl refl) refl (record { inverse = 34; unit = refl }) (record { constant = refl }) (same-check 101 places _ _ refl refl refl) and
+    split-none (taken 101 6 _ refl refl refl) (omega arith) (omega arith) refl (record { inverse = 51; unit = refl }) A-at-2 and
+    split-none (taken 101 6 _ refl refl refl) (omega arith) (omega arith) refl (record { inverse = 34; unit = refl }) B-at-3 and
+    split-found (taken 101 6 _ refl refl refl) (taken 101 2 _ refl refl refl) (taken 101 3 _ refl refl refl) refl (record { inverse = 51; unit = refl }) (record { constant = refl }) (same-check 101 places _ _ refl refl refl) and
+    left-found (taken 101 6 _ refl refl refl) (taken 101 2 _ refl refl refl) (taken 101 3 _ refl refl refl) refl (same-check 101 places _ _ refl refl refl) and
+    split-found (taken 4 9 _ refl refl refl) (taken 4 3 _ refl refl refl) (taken 4 3 _ refl refl refl) refl (record { inverse = 3; unit = refl }) (record { constant = refl }) (same-check 4 places _ _ refl refl refl) and
+    changes-to (taken 101 4 _ refl refl refl) (taken 101 4 _ refl refl refl) refl refl (record { inverse = 1; unit = refl }) (record { same = same-check 101 places _ _ refl refl refl }) and
+    split-found (taken 101 4 _ refl refl refl) (taken 101 2 _ refl refl refl) (taken 101 2 _ refl refl refl) refl (record { inverse = 51; unit = refl }) (record { constant = refl }) (same-check 101 places _ _ refl refl refl) and
+    changes-to (taken 5 4 _ refl refl refl) (taken 5 4 _ refl refl refl) refl refl (record { inverse = 3; unit = refl }) (record { same = same-check 5 places _ _ refl refl refl }) and
+    split-found (taken 5 4 _ refl refl refl) (taken 5 2 _ refl refl refl) (taken 5 2 _ refl refl refl) refl (record { inverse = 3; unit = refl }) (record { constant = refl }) (same-check 5 places _ _ refl refl refl) and
+    split-shared {s = 2} (taken 2 4 _ refl refl refl) (omega arith) (omega arith) refl (λ c. let z = c .only-one 2 (N.dvd-refl 2) (N.dvd-refl 2) in omega arith) and
+    left-found (taken 2 4 _ refl refl refl) (taken 2 2 _ refl refl refl) (taken 2 2 _ refl refl refl) refl (same-check 2 places _ _ refl refl refl) and
+    left-none (taken 2 4 _ refl refl refl) (taken 2 2 _ refl refl refl) (omega arith) refl I-none and
+    composes-to (taken 2 2 _ refl refl refl) (taken 2 2 _ refl refl refl) (taken 2 4 _ refl refl refl) refl (same-check 2 places _ _ refl refl refl) and
+    composes-to (taken 2 2 _ refl refl refl) (taken 2 2 _ refl refl refl) (taken 2 4 _ refl refl refl) refl (same-check 2 places _ _ refl refl refl) and
+    sixth-number sixth cube square and
+    sixth-first sixth cube square and
+    sixth-second sixth cube square and
+    sixth-beyond sixth cube square and
+    none

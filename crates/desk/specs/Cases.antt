@@ -1,11 +1,10 @@
--- The starred worked polynomials of 01, as one table of claims over the contracts of the operations, and what 02 works out beside them.
+-- The starred worked polynomials of 01, and x^6 of request No. 5, as one table of claims over the contracts of the operations.
 --
 --   padded p         p as the desk holds it: `terms` places, zeros after those of p
 --   Claim            what 01 says of a worked polynomial
 --   Holds c          what the claim says: the answer that the operation's contract allows, all of it
 --   All l            every claim of the list holds
---   starred          the table: A, B, C, D, F, G, H, I, J
---   every-chain      x^6 modulo 101, of request No. 5: its two complete chains
+--   starred          the table: A, B, C, D, F, G, H, I, J, and x^6 with its two complete chains
 use mathlib.Core.Path.{_≡_}
 use mathlib.Core.List.{List, [], _∷_, _++_, map}
 use Prim.Native.Nat.{ℕ, _-_, _≤_}
@@ -75,7 +74,17 @@ B = 96 ∷ 3 ∷ 9 ∷ 1 ∷ 6 ∷ 0 ∷ 1 ∷ []
 abbrev pub H : List ℕ
 H = 1 ∷ 1 ∷ 0 ∷ 0 ∷ 1 ∷ []
 
--- 01's values, constant term first
+-- the powers of x that request No. 5 names
+abbrev pub x² : List ℕ
+x² = 0 ∷ 0 ∷ 1 ∷ []
+
+abbrev pub x³ : List ℕ
+x³ = 0 ∷ 0 ∷ 0 ∷ 1 ∷ []
+
+abbrev pub x⁶ : List ℕ
+x⁶ = 0 ∷ 0 ∷ 0 ∷ 0 ∷ 0 ∷ 0 ∷ 1 ∷ []
+
+-- 01's values, constant term first; then request No. 5's: x^3 after x^2, x^2 after x^3, and no third chain
 abbrev pub starred : List Claim
 starred =
     splits 101 A 3 (10 ∷ 3 ∷ 3 ∷ 1 ∷ []) (0 ∷ 1 ∷ 1 ∷ []) ∷
@@ -93,21 +102,6 @@ starred =
     left-refused 2 (1 ∷ 0 ∷ 0 ∷ 1 ∷ 1 ∷ []) (0 ∷ 1 ∷ 1 ∷ []) 7 ∷
     composes 2 (0 ∷ 1 ∷ 1 ∷ []) (0 ∷ 0 ∷ 1 ∷ []) (0 ∷ 0 ∷ 1 ∷ 0 ∷ 1 ∷ []) ∷
     composes 2 (0 ∷ 0 ∷ 1 ∷ []) (0 ∷ 1 ∷ 1 ∷ []) (0 ∷ 0 ∷ 1 ∷ 0 ∷ 1 ∷ []) ∷
-    []
-
--- the powers of x that request No. 5 names
-abbrev pub x² : List ℕ
-x² = 0 ∷ 0 ∷ 1 ∷ []
-
-abbrev pub x³ : List ℕ
-x³ = 0 ∷ 0 ∷ 0 ∷ 1 ∷ []
-
-abbrev pub x⁶ : List ℕ
-x⁶ = 0 ∷ 0 ∷ 0 ∷ 0 ∷ 0 ∷ 0 ∷ 1 ∷ []
-
--- x^3 after x^2, then x^2 after x^3, and no third
-abbrev pub every-chain : List Claim
-every-chain =
     has-chains 101 x⁶ 2 ∷
     nth-chain 101 x⁶ 0 (x² ∷ x³ ∷ []) 3 ∷
     nth-chain 101 x⁶ 1 (x³ ∷ x² ∷ []) 3 ∷
