@@ -2,12 +2,13 @@
 
 use crate::entry::Entry;
 use crate::law::{
-    self, changed_chain, changed_split, read_composed, read_written, round_trip, written_read,
+    self, asked_twice, changed_chain, changed_chains, changed_split, every_composed, first_chain,
+    read_composed, read_written, round_trip, undone_chains, written_read,
 };
 use crate::operation::{
-    self, chain, change_pair, change_polynomial, check, combine, compose, left_part,
-    near_left_part, near_split, part, read_sheet, split, tiny_chain, tiny_left_part, tiny_split,
-    undo, write_sheet,
+    self, chain, change_pair, change_polynomial, check, combine, compose, count_chains,
+    every_chain, left_part, near_left_part, near_split, nth_chain, part, read_sheet, split,
+    tiny_chain, tiny_chains, tiny_left_part, tiny_split, undo, write_sheet,
 };
 
 pub const ALL: &[Entry] = &[
@@ -25,12 +26,21 @@ pub const ALL: &[Entry] = &[
     operation::entry::<undo::Undo>(),
     operation::entry::<chain::Chain>(),
     operation::entry::<tiny_chain::TinyChain>(),
+    operation::entry::<count_chains::CountChains>(),
+    operation::entry::<nth_chain::NthChain>(),
+    operation::entry::<every_chain::EveryChain>(),
+    operation::entry::<tiny_chains::TinyChains>(),
     operation::entry::<part::Part>(),
     operation::entry::<write_sheet::WriteSheet>(),
     operation::entry::<read_sheet::ReadSheet>(),
     law::entry::<round_trip::RoundTrip>(),
     law::entry::<changed_split::ChangedSplit>(),
     law::entry::<changed_chain::ChangedChain>(),
+    law::entry::<first_chain::FirstChain>(),
+    law::entry::<every_composed::EveryComposed>(),
+    law::entry::<changed_chains::ChangedChains>(),
+    law::entry::<undone_chains::UndoneChains>(),
+    law::entry::<asked_twice::AskedTwice>(),
     law::entry::<written_read::WrittenRead>(),
     law::entry::<read_written::ReadWritten>(),
     law::entry::<read_composed::ReadComposed>(),

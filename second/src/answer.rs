@@ -1,6 +1,8 @@
 //! What the operations answer, the desk's or this program's own: equal in
 //! every word or different.
 
+pub mod chains;
+
 use crate::change::{Change, IDENTITY};
 use crate::polynomial::{Polynomial, PLACES};
 use crate::record::{Record, RECORD_BYTES};

@@ -93,13 +93,11 @@ pub struct Chain {
     pub tries: usize,
 }
 
-impl Chain {
-    /// "The price of a chain is the sum over its parts"; request No. 1: "A
-    /// monic polynomial of degree n costs n - 1 multiplications."
-    pub fn price(&self) -> usize {
-        let degrees = self.parts.iter().filter_map(Polynomial::degree);
-        degrees.map(|n| n - 1).sum()
-    }
+/// "The price of a chain is the sum over its parts"; request No. 1: "A monic
+/// polynomial of degree n costs n - 1 multiplications."
+pub fn price(parts: &[Polynomial]) -> usize {
+    let degrees = parts.iter().filter_map(Polynomial::degree);
+    degrees.map(|n| n - 1).sum()
 }
 
 /// The chain of f, where `pair` gives the normal pair at r if there is one.

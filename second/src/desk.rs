@@ -5,6 +5,7 @@
 //! and fenced, and gives what stands in it after the call. An error is about
 //! memory that the desk had no right to write.
 
+use crate::answer::chains::{Counted, Jth};
 use crate::answer::{Chained, Changed, Checked, One, Place, SheetRead, Two, Written};
 use crate::change::Change;
 use crate::lent::{garbage, Given, Lent, LentArea};
@@ -67,6 +68,15 @@ extern "C" {
         area: *mut u32,
         count: usize,
         numbers: *mut [usize; 3],
+    ) -> Refused;
+    fn desk_count_chains(m: u32, f: *const Coefficients, number: *mut usize) -> Refused;
+    fn desk_nth_chain(
+        m: u32,
+        f: *const Coefficients,
+        j: usize,
+        area: *mut u32,
+        count: usize,
+        numbers: *mut [usize; 2],
     ) -> Refused;
     fn desk_part(area: *const u32, count: usize, i: usize, place: *mut [usize; 2]);
     fn desk_write_sheet(
@@ -307,6 +317,49 @@ pub fn chain(
         refused,
         parts,
         tries,
+        price,
+        area: area.give_back("the chain area")?,
+    })
+}
+
+/// The number of complete chains of f.
+pub fn count_chains(m: Modulus, f: &Polynomial, random: &mut Random) -> Result<Counted, String> {
+    let mut f = GivenPolynomial::new(f, random);
+    let mut number = lent_counts::<1>(random);
+    // SAFETY: as said above of all calls.
+    let refused = unsafe { desk_count_chains(m.word(), f.pointer(), number.pointer().cast()) };
+    f.give_back("the given f")?;
+    let [number] = number.give_back("the number")?;
+    Ok(Counted { refused, number })
+}
+
+/// The j-th complete chain of f, in a copy of `area` as it stands.
+pub fn nth_chain(
+    m: Modulus,
+    f: &Polynomial,
+    j: usize,
+    area: &[u32],
+    random: &mut Random,
+) -> Result<Jth, String> {
+    let mut f = GivenPolynomial::new(f, random);
+    let mut area = LentArea::words(area, random);
+    let mut numbers = lent_counts::<2>(random);
+    // SAFETY: as said above of all calls.
+    let refused = unsafe {
+        desk_nth_chain(
+            m.word(),
+            f.pointer(),
+            j,
+            area.pointer(),
+            area.count(),
+            numbers.pointer(),
+        )
+    };
+    f.give_back("the given f")?;
+    let [parts, price] = numbers.give_back("the numbers")?;
+    Ok(Jth {
+        refused,
+        parts,
         price,
         area: area.give_back("the chain area")?,
     })

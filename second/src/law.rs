@@ -2,11 +2,16 @@
 //! two ways and has to answer the same. Beside the operations this adds that
 //! the desk is held against itself, whatever the second program believes.
 
+pub mod asked_twice;
 pub mod changed_chain;
+pub mod changed_chains;
 pub mod changed_split;
+pub mod every_composed;
+pub mod first_chain;
 pub mod read_composed;
 pub mod read_written;
 pub mod round_trip;
+pub mod undone_chains;
 pub mod written_read;
 
 use crate::answer::Answer;

@@ -7,12 +7,14 @@
 //! input, and stops at the first difference. Where it can, it goes another way
 //! than the desk: the left part by the powers of h and the triangular system of
 //! 000, the right part as a root of the reversed polynomial, changes by
-//! binomials, and for tiny sizes all of it by going through all g and h. In a
-//! usual run left part and split are asked at all degrees of a pair, of g(h) and
-//! of f that is another at any one place; with fewer inputs, at some of them.
-//! Then it holds the desk against itself, as the
-//! demands 2 and 3 say, and request No. 2 of its sheets. About one input in seven
-//! is at modulus 2^32 (request No. 3), and what was met there is counted apart.
+//! binomials, every complete chain (request No. 5) by trying all degrees that its
+//! parts could have, and for tiny sizes all of it by going through all g and h or
+//! all lists of parts. In a usual run left part and split are asked at all
+//! degrees of a pair, of g(h) and of f that is another at any one place; with
+//! fewer inputs, at some of them. Then it holds the desk against itself, as the
+//! demands 2 and 3 say, and requests Nos. 2 and 5 of its sheets and of all chains.
+//! About one input in seven is at modulus 2^32 (request No. 3), and what was met
+//! there is counted apart.
 //!
 //! N inputs are compared over all operations, after the worked cases of 01 and
 //! of 2^32. Each operation gets its share of them, the cheaper ones more; without N it
@@ -39,6 +41,7 @@ mod damage;
 mod decomposition;
 mod desk;
 mod entry;
+mod every_chain;
 mod inputs;
 mod law;
 mod lent;
@@ -48,6 +51,7 @@ mod modulus;
 mod near;
 mod operation;
 mod polynomial;
+mod powers;
 mod progress;
 mod random;
 mod record;

@@ -3,6 +3,8 @@
 //! split nowhere. The degree is known before the modulus is chosen, since the
 //! two may not share a factor where f is to be split.
 
+pub mod several;
+
 use crate::change;
 use crate::inputs;
 use crate::modulus::Modulus;
@@ -26,6 +28,8 @@ pub enum Shape {
         k: usize,
         p_degree: usize,
     },
+    /// Each after the next.
+    After(Vec<Shape>),
 }
 
 impl Shape {
@@ -50,6 +54,7 @@ impl Shape {
             Shape::Any(n) | Shape::Power(n) | Shape::Chebyshev(n) => *n,
             Shape::Planted(degrees) => degrees.iter().product(),
             Shape::TwoOrders { d, k, p_degree } => d * (k + d * p_degree),
+            Shape::After(shapes) => shapes.iter().map(Shape::degree).product(),
         }
     }
 
@@ -66,6 +71,10 @@ impl Shape {
             Shape::TwoOrders { d, k, p_degree } => {
                 let p = inputs::monic(random, *p_degree, m);
                 moved(in_two_orders(*d, *k, &p, m), m, random)
+            }
+            Shape::After(shapes) => {
+                let parts = shapes.iter().map(|shape| shape.polynomial(m, random));
+                each_after_the_next(parts, m)
             }
         }
     }
@@ -143,7 +152,11 @@ fn degrees_from(least: usize, step: usize, count: usize, random: &mut Random) ->
 }
 
 fn planted(degrees: &[usize], m: Modulus, random: &mut Random) -> Polynomial {
-    let mut parts = degrees.iter().map(|&n| inputs::monic(random, n, m));
+    let parts = degrees.iter().map(|&n| inputs::monic(random, n, m));
+    each_after_the_next(parts, m)
+}
+
+fn each_after_the_next(mut parts: impl Iterator<Item = Polynomial>, m: Modulus) -> Polynomial {
     let leftmost = parts.next().expect("at least one part is planted");
     parts.fold(leftmost, |left, right| {
         left.compose(&right, m).expect("126 at most is planted")

@@ -2,6 +2,8 @@
 //! small m, and their pairs and left parts by going through all g and all h. No
 //! theorem stands behind these answers, only the definition of a pair.
 
+pub mod chains;
+
 use crate::decomposition::{part_degrees, Pair};
 use crate::inputs::choose;
 use crate::modulus::Modulus;

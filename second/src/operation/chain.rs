@@ -203,7 +203,7 @@ pub fn chained(area: &[u32], chain: &decomposition::Chain) -> Chained {
         refused: Refused::ANSWERED,
         parts: chain.parts.len(),
         tries: chain.tries,
-        price: chain.price(),
+        price: decomposition::price(&chain.parts),
         area: filled(area, &chain.parts),
     }
 }
@@ -222,13 +222,17 @@ pub fn filled(area: &[u32], parts: &[Polynomial]) -> Vec<u32> {
 // The inputs.
 
 /// f of any shape, with an n that shares a factor with m or does not.
-fn taken(sharing: bool, random: &mut Random) -> Asked {
+pub fn taken(sharing: bool, random: &mut Random) -> Asked {
     let shape = Shape::random(random);
-    let m = match sharing {
-        true => inputs::modulus_sharing(shape.degree(), random),
-        false => inputs::modulus_without(shape.degree(), random),
-    };
+    let m = modulus_for(shape.degree(), sharing, random);
     Asked::one(m, nearly_at_times(&shape, m, random))
+}
+
+pub fn modulus_for(n: usize, sharing: bool, random: &mut Random) -> Modulus {
+    match sharing {
+        true => inputs::modulus_sharing(n, random),
+        false => inputs::modulus_without(n, random),
+    }
 }
 
 /// Of each shape some that were spoilt in one coefficient.

@@ -1,0 +1,99 @@
+//! x^n and the Chebyshev polynomials of all degrees n from 2 to 126, at several
+//! moduli. They split at every divisor of n, so that their chains are known
+//! without any splitting: the prime factors of n in all their orders.
+
+use crate::asked::Asked;
+use crate::every_chain::FromTheRight;
+use crate::list::List;
+use crate::modulus::{Modulus, TOP_WORD, WHOLE_WORDS};
+use crate::polynomial::TOP_DEGREE;
+use crate::random::Random;
+use crate::residue::shares_factor;
+use crate::shape::{plain_power, Shape};
+
+/// Primes, powers of primes, and 2^32 for an odd n.
+const MODULI: [Modulus; 8] = [
+    Modulus::of_word(101),
+    Modulus::of_word(1_009),
+    Modulus::of_word(1_000_003),
+    Modulus::of_word(TOP_WORD),
+    Modulus::of_word(25),
+    Modulus::of_word(49),
+    Modulus::of_word(121),
+    WHOLE_WORDS,
+];
+
+#[derive(Clone, Copy)]
+pub enum Form {
+    Plain,
+    /// Half of them with another unit and origin, as the next.
+    Power,
+    Chebyshev,
+}
+
+/// A form and n; in a block stand the moduli.
+pub struct Walk(List<(Form, usize)>);
+
+impl Walk {
+    pub fn new() -> Walk {
+        let mut blocks = Vec::new();
+        for form in [Form::Plain, Form::Power, Form::Chebyshev] {
+            let of = |n| ((form, n), moduli(n).len() as u64);
+            blocks.extend((2..=TOP_DEGREE).map(of));
+        }
+        Walk(List::of(blocks.into_iter()))
+    }
+
+    /// The polynomial, and the degrees of its chains.
+    pub fn input(&self, index: u64, random: &mut Random) -> (Asked, Vec<FromTheRight>) {
+        let ((form, n), number) = self.0.at(index);
+        let m = moduli(n)[number as usize];
+        let f = match form {
+            Form::Plain => plain_power(n),
+            Form::Power => Shape::Power(n).polynomial(m, random),
+            Form::Chebyshev => Shape::Chebyshev(n).polynomial(m, random),
+        };
+        (Asked::one(m, f), orders_of_primes(n))
+    }
+}
+
+/// Those that share no factor with n.
+fn moduli(n: usize) -> Vec<Modulus> {
+    let fits = |m: &Modulus| !shares_factor(n as u64, *m);
+    MODULI.into_iter().filter(fits).collect()
+}
+
+/// The prime factors of n in all orders, each once, in the order of request
+/// No. 5.
+fn orders_of_primes(n: usize) -> Vec<FromTheRight> {
+    let mut order = primes(n);
+    let mut orders = vec![order.clone()];
+    while to_next_order(&mut order) {
+        orders.push(order.clone());
+    }
+    orders
+}
+
+/// From the smallest up.
+fn primes(mut n: usize) -> Vec<usize> {
+    let mut primes = Vec::new();
+    while n > 1 {
+        let least = (2..=n).find(|d| n.is_multiple_of(*d)).expect("n itself");
+        primes.push(least);
+        n /= least;
+    }
+    primes
+}
+
+/// To the order that comes next, if there is one: the last number with a larger
+/// one after it changes places with the last of these, and what comes after its
+/// place is turned round.
+fn to_next_order(order: &mut [usize]) -> bool {
+    let Some(place) = order.windows(2).rposition(|two| two[0] < two[1]) else {
+        return false;
+    };
+    let larger = order.iter().rposition(|&number| number > order[place]);
+    order.swap(place, larger.expect("the one after it is"));
+    order[place + 1..].reverse();
+    true
+}
