@@ -49,6 +49,7 @@ mod list;
 mod listing;
 mod modulus;
 mod near;
+mod near_power;
 mod operation;
 mod polynomial;
 mod powers;

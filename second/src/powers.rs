@@ -25,9 +25,8 @@ const MODULI: [Modulus; 8] = [
 
 #[derive(Clone, Copy)]
 pub enum Form {
-    Plain,
-    /// Half of them with another unit and origin, as the next.
     Power,
+    /// Half of them with another unit and origin.
     Chebyshev,
 }
 
@@ -37,7 +36,7 @@ pub struct Walk(List<(Form, usize)>);
 impl Walk {
     pub fn new() -> Walk {
         let mut blocks = Vec::new();
-        for form in [Form::Plain, Form::Power, Form::Chebyshev] {
+        for form in [Form::Power, Form::Chebyshev] {
             let of = |n| ((form, n), moduli(n).len() as u64);
             blocks.extend((2..=TOP_DEGREE).map(of));
         }
@@ -49,8 +48,7 @@ impl Walk {
         let ((form, n), number) = self.0.at(index);
         let m = moduli(n)[number as usize];
         let f = match form {
-            Form::Plain => plain_power(n),
-            Form::Power => Shape::Power(n).polynomial(m, random),
+            Form::Power => plain_power(n),
             Form::Chebyshev => Shape::Chebyshev(n).polynomial(m, random),
         };
         (Asked::one(m, f), orders_of_primes(n))

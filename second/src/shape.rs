@@ -171,7 +171,7 @@ pub fn plain_power(n: usize) -> Polynomial {
 }
 
 /// Half the time with another unit and origin: what splits, splits still.
-fn moved(f: Polynomial, m: Modulus, random: &mut Random) -> Polynomial {
+pub fn moved(f: Polynomial, m: Modulus, random: &mut Random) -> Polynomial {
     if random.once_in(2) {
         return f;
     }

@@ -98,6 +98,46 @@ pub const N6_PAIR: [Coefficients; 2] = [&[4294967295, 2, 2147483648, 1], &[0, 30
 pub const N4: (u32, Coefficients) = (0, &[0, 0, 0, 131072, 1]);
 pub const N4_RIGHT: Coefficients = &[0, 65536, 1];
 
+// Request No. 5: the chains of one f need not have the same number of parts, nor
+// the same price, and the first need not be the cheapest. Modulo 25 the square of
+// 5 vanishes, modulo 9 that of 3, and at 2^32 that of 2^31.
+
+/// x^12 + 5x^9.
+pub const W12: (u32, Coefficients) = (25, &[0, 0, 0, 0, 0, 0, 0, 0, 0, 5, 0, 0, 1]);
+/// By degrees from the right 3, 2, 2: (x^2 + 15x)^2 is x^4 + 5x^3.
+pub const W12_FIRST: [Coefficients; 3] = [&[0, 0, 1], &[0, 15, 1], &[0, 0, 0, 1]];
+/// By degrees from the right 4, 3: (x^4 + 10x)^3.
+pub const W12_SECOND: [Coefficients; 2] = [&[0, 0, 0, 1], &[0, 10, 0, 0, 1]];
+
+/// x^20 + 3x^17.
+pub const W20: (u32, Coefficients) = (
+    9,
+    &[
+        0, 0, 0, 0, 0, 0, 0, 0, 0, 0, 0, 0, 0, 0, 0, 0, 0, 3, 0, 0, 1,
+    ],
+);
+/// By degrees from the right 4, 5: (x^4 + 6x)^5.
+pub const W20_FIRST: [Coefficients; 2] = [&[0, 0, 0, 0, 0, 1], &[0, 6, 0, 0, 1]];
+/// By degrees from the right 5, 2, 2: (x^5 + 3x^2)^4.
+pub const W20_SECOND: [Coefficients; 3] = [&[0, 0, 1], &[0, 0, 1], &[0, 0, 3, 0, 0, 1]];
+
+/// x^45 + 2^31·x^40.
+pub const W45: (u32, Coefficients) = (
+    0,
+    &[
+        0, 0, 0, 0, 0, 0, 0, 0, 0, 0, 0, 0, 0, 0, 0, 0, 0, 0, 0, 0, 0, 0, 0, 0, 0, 0, 0, 0, 0, 0,
+        0, 0, 0, 0, 0, 0, 0, 0, 0, 0, 2147483648, 0, 0, 0, 0, 1,
+    ],
+);
+/// By degrees from the right 5, 3, 3: (x^3 + 2^31·x^2)^3 is x^9 + 2^31·x^8.
+pub const W45_FIRST: [Coefficients; 3] =
+    [&[0, 0, 0, 1], &[0, 0, 2147483648, 1], &[0, 0, 0, 0, 0, 1]];
+/// By degrees from the right 9, 5: (x^9 + 2^31·x^4)^5.
+pub const W45_SECOND: [Coefficients; 2] = [
+    &[0, 0, 0, 0, 0, 1],
+    &[0, 0, 0, 0, 2147483648, 0, 0, 0, 0, 1],
+];
+
 /// One polynomial of 01, or one above, and the parts given for it, left to
 /// right.
 struct Chain {
@@ -106,7 +146,7 @@ struct Chain {
     parts: &'static [Coefficients],
 }
 
-const CHAINS: [Chain; 14] = [
+const CHAINS: [Chain; 20] = [
     Chain {
         name: "A",
         whole: A,
@@ -176,6 +216,36 @@ const CHAINS: [Chain; 14] = [
         name: "N27",
         whole: N27,
         parts: &N27_PARTS,
+    },
+    Chain {
+        name: "W12, the first",
+        whole: W12,
+        parts: &W12_FIRST,
+    },
+    Chain {
+        name: "W12, the second",
+        whole: W12,
+        parts: &W12_SECOND,
+    },
+    Chain {
+        name: "W20, the first",
+        whole: W20,
+        parts: &W20_FIRST,
+    },
+    Chain {
+        name: "W20, the second",
+        whole: W20,
+        parts: &W20_SECOND,
+    },
+    Chain {
+        name: "W45, the first",
+        whole: W45,
+        parts: &W45_FIRST,
+    },
+    Chain {
+        name: "W45, the second",
+        whole: W45,
+        parts: &W45_SECOND,
     },
 ];
 

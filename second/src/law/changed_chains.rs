@@ -44,7 +44,7 @@ impl Law for ChangedChains {
     const OTHER_WAY: &'static str = "changed, then chains";
 
     fn usual() -> u64 {
-        4_000
+        3_000
     }
 
     /// Any f that the chain accepts, and any change.

@@ -36,7 +36,7 @@ impl Law for EveryComposed {
     const OTHER_WAY: &'static str = "each chain composed";
 
     fn usual() -> u64 {
-        4_000
+        3_000
     }
 
     fn input(_index: u64, random: &mut Random) -> ChainIn {

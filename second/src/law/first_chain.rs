@@ -28,7 +28,7 @@ impl Law for FirstChain {
     const OTHER_WAY: &'static str = "the first";
 
     fn usual() -> u64 {
-        15_000
+        10_000
     }
 
     fn input(index: u64, random: &mut Random) -> ChainIn {

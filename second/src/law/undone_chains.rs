@@ -21,7 +21,7 @@ impl Law for UndoneChains {
     const OTHER_WAY: &'static str = "changed, then chains, then carried back";
 
     fn usual() -> u64 {
-        4_000
+        3_000
     }
 
     fn input(index: u64, random: &mut Random) -> Input {

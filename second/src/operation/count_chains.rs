@@ -10,6 +10,7 @@ use crate::desk;
 use crate::every_chain::{every_chain, Parts};
 use crate::inputs;
 use crate::modulus::Modulus;
+use crate::near_power;
 use crate::polynomial::Polynomial;
 use crate::random::Random;
 use crate::refused::{Refused, FIRST};
@@ -63,7 +64,7 @@ impl Operation for CountChains {
     };
 
     fn usual() -> u64 {
-        15_000
+        10_000
     }
 
     fn worked() -> Vec<Worked<Asked, Counted>> {
@@ -127,11 +128,13 @@ pub fn own_chains(asked: &Asked) -> Vec<Parts> {
 
 // The inputs.
 
-/// f that has several chains, most likely, or what the chain itself is given;
-/// with an n that shares a factor with m or does not.
+/// f that has several chains, most likely, or that has chains of several lengths,
+/// or what the chain itself is given; with an n that shares a factor with m or does not.
 pub fn with_chains(sharing: bool, random: &mut Random) -> Asked {
-    if random.once_in(3) {
-        return taken(sharing, random);
+    match random.below(12) {
+        0 if !sharing => return near_power::of_several_lengths(random),
+        1..=4 => return taken(sharing, random),
+        _ => {}
     }
     let shape = Shape::of_several_chains(random);
     let m = modulus_for(shape.degree(), sharing, random);
@@ -184,6 +187,9 @@ fn worked_cases() -> Vec<Worked<Asked, Counted>> {
         power("x^120, m 49", 49, 120, 20),
         power("x^105 at 2^32", 0, 105, 6),
         power("x^7", 101, 7, 1),
+        given("W12", worked::W12, Counted::answered(2)),
+        given("W20", worked::W20, Counted::answered(2)),
+        given("W45", worked::W45, Counted::answered(2)),
         one("A", worked::A),
         one("B", worked::B),
         one("D", worked::D),

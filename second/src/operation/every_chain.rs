@@ -10,8 +10,9 @@ use crate::decomposition::part_degrees;
 use crate::desk;
 use crate::every_chain::{factorisations, from_the_right, FromTheRight, Parts};
 use crate::inputs;
+use crate::near_power;
 use crate::polynomial::Polynomial;
-use crate::powers::Walk;
+use crate::powers;
 use crate::random::Random;
 use crate::tally::Wanted;
 use std::sync::OnceLock;
@@ -26,6 +27,7 @@ pub struct EveryIn {
 
 const NOT_PRIME: &str = "a part whose degree is not prime";
 const MANY_PARTS: &str = "several chains of 4 parts or more";
+const LENGTHS: &str = "chains of several lengths";
 
 impl Operation for EveryChain {
     type Input = EveryIn;
@@ -50,6 +52,7 @@ impl Operation for EveryChain {
             PARTS[5],
             NOT_PRIME,
             MANY_PARTS,
+            LENGTHS,
             inputs::PRIME,
             inputs::PRIME_POWER,
             inputs::SEVERAL_PRIMES,
@@ -60,11 +63,12 @@ impl Operation for EveryChain {
             ODD_CHAINS[2],
             ODD_CHAINS[3],
             NOT_PRIME,
+            LENGTHS,
         ]),
     };
 
     fn usual() -> u64 {
-        10_000
+        8_000
     }
 
     /// They are with the two operations.
@@ -72,16 +76,20 @@ impl Operation for EveryChain {
         Vec::new()
     }
 
-    /// Every fourth input is the next of x^n and the Chebyshev polynomials.
+    /// Every fourth input is the next of x^n and the Chebyshev polynomials, and
+    /// every fourth the next of those near x^n.
     fn input(index: u64, random: &mut Random) -> EveryIn {
-        static WALK: OnceLock<Walk> = OnceLock::new();
-        let (asked, known) = match index % 4 {
-            3 => {
-                let walk = WALK.get_or_init(Walk::new);
-                let (asked, known) = walk.input(index / 4, random);
-                (asked, Some(known))
-            }
-            _ => (with_chains(false, random), None),
+        static POWERS: OnceLock<powers::Walk> = OnceLock::new();
+        static NEAR: OnceLock<near_power::Walk> = OnceLock::new();
+        let place = index / 4;
+        let known = match index % 4 {
+            1 => Some(NEAR.get_or_init(near_power::Walk::new).input(place, random)),
+            3 => Some(POWERS.get_or_init(powers::Walk::new).input(place, random)),
+            _ => None,
+        };
+        let (asked, known) = match known {
+            Some((asked, degrees)) => (asked, Some(degrees)),
+            None => (with_chains(false, random), None),
         };
         let area = any_area(false, random);
         let of = ChainIn { asked, area };
@@ -128,11 +136,13 @@ pub fn kinds_of(answer: &Every) -> Vec<&'static str> {
     let splits_once = |&n: &usize| part_degrees(n).next().is_some();
     let not_prime = degrees.iter().flatten().any(splits_once);
     let many_parts = degrees.len() > 1 && first.parts > 3;
+    let lengths = degrees.iter().any(|list| list.len() != first.parts);
     kind_of_number(answer.counted.number)
         .into_iter()
         .chain(PARTS.get(first.parts.wrapping_sub(1)).copied())
         .chain(not_prime.then_some(NOT_PRIME))
         .chain(many_parts.then_some(MANY_PARTS))
+        .chain(lengths.then_some(LENGTHS))
         .collect()
 }
 

@@ -72,7 +72,7 @@ impl Operation for NthChain {
     };
 
     fn usual() -> u64 {
-        20_000
+        12_000
     }
 
     fn worked() -> Vec<Worked<NthIn, Jth>> {
@@ -234,12 +234,12 @@ fn answered(parts: &[Polynomial], price: usize) -> Jth {
 
 fn of_worked(
     name: &'static str,
-    (m, f): (u32, Coefficients),
+    ((m, f), j): ((u32, Coefficients), usize),
     parts: &[Coefficients],
     price: usize,
 ) -> Worked<NthIn, Jth> {
     let parts: Parts = parts.iter().map(|part| Polynomial::of(part)).collect();
-    case_of(name, m, Polynomial::of(f), 0, answered(&parts, price))
+    case_of(name, m, Polynomial::of(f), j, answered(&parts, price))
 }
 
 fn refused(
@@ -297,10 +297,16 @@ fn worked_cases() -> Vec<Worked<NthIn, Jth>> {
         of_power("x^64, j = 0", (101, 64, 0), &[2; 6], 6),
         of_power("x^7, j = 0", (101, 7, 0), &[7], 6),
         refused("x^7, j = 1", (101, plain_power(7)), 1, past),
-        of_worked("B", worked::B, &[&[96, 1, 1], cubic], 3),
-        of_worked("E", worked::E, &[&[0, 0, 1], &[0, 1, 1], cubic], 4),
-        of_worked("N9 and x", worked::N9_AND_X, &[worked::N9_AND_X.1], 8),
-        of_worked("N27", worked::N27, &worked::N27_PARTS, 6),
+        of_worked("B", (worked::B, 0), &[&[96, 1, 1], cubic], 3),
+        of_worked("E", (worked::E, 0), &[&[0, 0, 1], &[0, 1, 1], cubic], 4),
+        of_worked("N9 and x", (worked::N9_AND_X, 0), &[worked::N9_AND_X.1], 8),
+        of_worked("N27", (worked::N27, 0), &worked::N27_PARTS, 6),
+        of_worked("W12, j = 0", (worked::W12, 0), &worked::W12_FIRST, 4),
+        of_worked("W12, j = 1", (worked::W12, 1), &worked::W12_SECOND, 5),
+        of_worked("W20, j = 0", (worked::W20, 0), &worked::W20_FIRST, 7),
+        of_worked("W20, j = 1", (worked::W20, 1), &worked::W20_SECOND, 6),
+        of_worked("W45, j = 0", (worked::W45, 0), &worked::W45_FIRST, 8),
+        of_worked("W45, j = 1", (worked::W45, 1), &worked::W45_SECOND, 12),
         refused("x^2, m 2, j = 0", (2, plain_power(2)), 0, sharing),
         refused("x^2, m 2, j = 1", (2, plain_power(2)), 1, sharing),
         short("area of no words, m 1", 0),
