@@ -37,7 +37,7 @@ pub const CHAINS: [&str; 5] = [
     "10 chains or more",
 ];
 
-/// x^105 has six, and nothing of an odd degree has more.
+/// What x^105 has is the most that is met of an odd degree: six.
 pub const ODD_CHAINS: &[&str] = CHAINS.split_at(4).0;
 
 impl Operation for CountChains {
