@@ -8,10 +8,11 @@
 --   passed-over, passed-missed       one that does not divide n; one at which there is no pair
 --   passed-hit                       one at which there is a pair: the first split
 --   passed-all                       all up to n/2: there is no split
+--   searched-splits                  so the round tells whether f splits
 --   left-coprime                     a left degree shares no factor with m, as n does not
 --   hit, miss                        what the answer to a split says
 use mathlib.Core.Path.{_≡_, refl, sym, ap, subst, _∙_}
-use mathlib.Core.Bool.{true, false, false≢true}
+use mathlib.Core.Bool.{Bool, true, false, false≢true}
 use mathlib.Core.List.{List}
 use Prim.Native.Nat.{ℕ, zero, suc, _+_, _*_, _-_, _/_, _%_, _≤_, _<_}
 use native.Mathlib.Nat as N
@@ -22,7 +23,7 @@ use Rattle.algebra.specs.Number.{Coprime}
 use Rattle.algebra.specs.Polynomial.{limit}
 use Rattle.algebra.specs.Pair.{Pair, NormalPair, NoPair, SplitsRight}
 use Rattle.algebra.specs.Chain.{divides, tested}
-use Rattle.algebra.proofs.Chains.{split-half}
+use Rattle.algebra.proofs.Chains.{splits, split-half, unsplit-at, split-at}
 use Rattle.algebra.proofs.Factors.{coprime-invertible, invertible-coprime, invertible-left}
 use Rattle.polynomial.specs.Degrees.{Degrees}
 use Rattle.refusal.specs.Refusal.{is-refused}
@@ -30,7 +31,7 @@ use Rattle.polynomial.specs.Answers.{no-parts}
 use Rattle.polynomial.specs.declared.Parts.{Parts}
 use Rattle.pair.specs.Pairing.{SplitAnswer}
 use Rattle.pair.specs.Pairing as of
-use Rattle.chain.specs.Chaining.{Searched}
+use Rattle.chain.specs.Chaining.{ChainAsked, Searched, Splittable}
 
 divides-yes : (d n : ℕ) → n % d ≡ 0 → divides d n ≡ 1
 unfolding divides
@@ -123,6 +124,13 @@ module _ {m n s t : ℕ} {f : List ℕ} (p : Passed m n f s t) where
     where
       last : s - 1 ≡ n / 2
       last = omega arith
+
+-- so the round tells whether f splits
+pub searched-splits : {m n s t : ℕ} {f g h table : List ℕ} {b : Bool} → ChainAsked m n f table → Searched m n f b s t g h → Splittable m f b
+searched-splits {m} {s = s} {f = f} a w = record {
+  yes = λ z u. let k = w .yes z in split-at (a .modulus .above-one) (a .whole .reduced) (a .whole .monic) u s (splits (k .two-left) (k .two-right) (k .product) (k .pair .pair));
+  no = λ z. unsplit-at (a .modulus .above-one) (a .whole .reduced) (a .whole .monic) (w .no z .none);
+}
 
 -- a factor of n shares no factor with m, as n does not
 pub left-coprime : {m n r : ℕ} (s : ℕ) → 1 < m → Coprime n m → r * s ≡ n → Coprime r m

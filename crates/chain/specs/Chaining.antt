@@ -5,6 +5,7 @@
 --   FirstSplit m n f s t g h      s is the first right degree at which f splits, after t tries, and g, h the pair there
 --   NoSplit m n f t               f splits at no right degree, and t tries show it
 --   Searched m n f b s t g h      what the round over the right degrees finds
+--   Splittable m f b              whether f splits
 --   ChainedIn m n f xs ys k t c   the chain of f stands in the first k places of ys, with its tries t and its price c
 --   unchained o                   the outcome o beside zeros, as after a refusal
 --   ChainOf m f xs ys x           x answers: the chain of f; xs is the area before, ys the area afterwards
@@ -15,7 +16,7 @@ use Prim.Native.Nat.{ℕ, _*_, _/_, _≤_, _<_}
 use lib.ListN.{length, drop}
 use Rattle.algebra.specs.Number.{Coprime, Modulus}
 use Rattle.algebra.specs.Polynomial.{degree, terms, Held}
-use Rattle.algebra.specs.Pair.{NormalPair, SplitsRight}
+use Rattle.algebra.specs.Pair.{NormalPair, SplitsRight, Unsplit}
 use Rattle.algebra.specs.Chain.{Chain, tested, price}
 use Rattle.refusal.specs.Refusal.{refusal}
 use Rattle.refusal.specs.declared.Refusal.{Refusal}
@@ -59,6 +60,11 @@ pub record NoSplit (m n : ℕ) (f : List ℕ) (t : ℕ) : Type 0 where
 pub record Searched (m n : ℕ) (f : List ℕ) (found : Bool) (s t : ℕ) (g h : List ℕ) : Type 0 where
   pub yes : found ≡ true → FirstSplit m n f s t g h
   pub no : found ≡ false → NoSplit m n f t
+
+-- whether f splits at some right degree
+pub record Splittable (m : ℕ) (f : List ℕ) (b : Bool) : Type 0 where
+  pub yes : b ≡ true → Unsplit m f → ⊥
+  pub no : b ≡ false → Unsplit m f
 
 -- the parts stand in the first places, left to right, and nothing else has changed
 pub record ChainedIn (m n : ℕ) (f xs ys : List ℕ) (count tries cost : ℕ) : Type 0 where

@@ -8,7 +8,7 @@ ghost use Rattle.algebra.specs.Polynomial.{degree};
 ghost use Rattle.algebra.specs.Chain.{cost as cost-of};
 ghost use Rattle.polynomial.specs.Moduli.{modulus};
 ghost use Rattle.area.specs.Area.{area-words};
-ghost use Rattle.chain.specs.Chaining.{ChainAsked, Searched, ChainedIn, Shares, unchained as unchained-of, ChainOf};
+ghost use Rattle.chain.specs.Chaining.{ChainAsked, Searched, Splittable, ChainedIn, Shares, unchained as unchained-of, ChainOf};
 use binomial::ENTRIES;
 use polynomial::Coefficients;
 use refusal::Concerns;
@@ -25,16 +25,16 @@ pub struct Chained {
 }
 
 // What a round over the right degrees finds: the first split, and the tries.
-pub struct Round {
-    pub found: bool,
-    pub at: usize,
-    pub tries: usize,
-    pub left: Coefficients,
-    pub right: Coefficients,
+struct Round {
+    found: bool,
+    at: usize,
+    tries: usize,
+    left: Coefficients,
+    right: Coefficients,
 }
 
 // The round: each right degree from 2 to n / 2 that divides n, until f splits.
-pub fn first_split(f: Coefficients, n: usize, table: &[u64; ENTRIES], m: u64) -> Round
+fn first_split(f: Coefficients, n: usize, table: &[u64; ENTRIES], m: u64) -> Round
     requires { ⌜ ChainAsked m n f (now table) ⌝ }
     ensures { λ a. ⌜ Searched m n f (a .found) (a .at) (a .tries) (a .left) (a .right) ⌝ }
 {
@@ -66,6 +66,15 @@ pub fn first_split(f: Coefficients, n: usize, table: &[u64; ENTRIES], m: u64) ->
         left: f,
         right: f,
     }
+}
+
+// Whether f splits.
+pub fn splits(f: Coefficients, n: usize, table: &[u64; ENTRIES], m: u64) -> bool
+    requires { ⌜ ChainAsked m n f (now table) ⌝ }
+    ensures { λ b. ⌜ Splittable m f b ⌝ }
+{
+    let a = first_split(f, n, table, m);
+    a.found
 }
 
 // How many parts were written, their tries and their price.

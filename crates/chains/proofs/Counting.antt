@@ -1,7 +1,7 @@
 -- Counting the complete chains over the right degrees.
 --
 --   chainable                          what the code is given, as the laws of algebra want it
---   undivided, missed, tested          the rightmost part of degree s: s does not divide n; there is no pair; the right part was searched
+--   undivided, missed, tested          the rightmost part of degree s: s does not divide n; there is no pair; there is one
 --   left-asked, right-asked            the parts of a pair are what the chain takes
 --   Below m f s c                      c complete chains of f have a rightmost degree below s
 --   below-none, below-pass, below-take     none is below 2; none at s; those at s are the chains of the left part
@@ -16,17 +16,17 @@ use native.Mathlib.Omega.{arith}
 use borrow.Author.Tests.{not-true, not-false}
 use lib.ListN.{length, length-append, length-map}
 use Rattle.algebra.specs.Polynomial.{limit, degree}
-use Rattle.algebra.specs.Pair.{NormalPair, NoPair, Unsplit}
+use Rattle.algebra.specs.Pair.{NormalPair, NoPair}
 use Rattle.algebra.specs.Chain.{part}
 use Rattle.algebra.specs.Every.{CompleteChain, Lists}
 use Rattle.algebra.proofs.Factors.{coprime-invertible}
-use Rattle.algebra.proofs.Chains.{sum-within, splits, unsplit-at, split-at}
-use Rattle.algebra.proofs.Complete.{Chainable, right-chainable}
+use Rattle.algebra.proofs.Chains.{sum-within}
+use Rattle.algebra.proofs.Complete.{Chainable}
 use Rattle.algebra.proofs.Every as E
 use Rattle.algebra.proofs.Every.{RightBelow}
 use Rattle.algebra.proofs.Few as F
 use Rattle.polynomial.specs.Degrees.{Degrees}
-use Rattle.chain.specs.Chaining.{ChainAsked, FirstSplit, Searched}
+use Rattle.chain.specs.Chaining.{ChainAsked, Splittable}
 use Rattle.chain.proofs.Rounds.{split-divides, split-pair, left-coprime}
 use Rattle.chains.specs.Walking.{Rightmost, RightmostAt, Counted}
 
@@ -64,18 +64,12 @@ module _ {m n : ℕ} {f : List ℕ} (t : Chainable m n f) {s : ℕ} (half : s �
   pub missed : NoPair m f (n / s) s → RightmostAt m n f s false g h
   missed none = record { yes = λ z. absurd (false≢true z); no = λ z x c e. E.at-none t (omega (arith, t .two, half)) (λ w. none (w .g) (w .h) (split-pair w)) x (c, e) }
 
-  -- it does, and the right part was searched for a split
-  pub tested : {b : Bool} {d u : ℕ} {g′ h′ : List ℕ} → Degrees n (n / s) s → NormalPair m f (n / s) s g h → Searched m s h b d u g′ h′ → RightmostAt m n f s (not b) g h
-  tested {b} {d} {u} {g′} {h′} k p w = record {
-    yes = λ z. record { two-left = k .two-left; two-right = k .two-right; product = k .product; pair = p; unsplit = unsplit-at (q .modulus) (q .whole .reduced) (q .whole .monic) (w .no (not-true b z) .none) };
-    no = λ z x c e. E.at-split t (k .two-left) (k .two-right) (k .product) p (λ v. splits-there v (w .yes (not-false b z))) x (c, e);
+  -- it does, and the right part splits or does not
+  pub tested : {b : Bool} → Degrees n (n / s) s → NormalPair m f (n / s) s g h → Splittable m h b → RightmostAt m n f s (not b) g h
+  tested {b} k p w = record {
+    yes = λ z. record { two-left = k .two-left; two-right = k .two-right; product = k .product; pair = p; unsplit = w .no (not-true b z) };
+    no = λ z x c e. E.at-split t (k .two-left) (k .two-right) (k .product) p (w .yes (not-false b z)) x (c, e);
   }
-    where
-      q : Chainable m s h
-      q = right-chainable t (k .two-left) (k .two-right) (k .product) p
-
-      splits-there : Unsplit m h → FirstSplit m s h d u g′ h′ → ⊥
-      splits-there v z = split-at (q .modulus) (q .whole .reduced) (q .whole .monic) v d (splits (z .two-left) (z .two-right) (z .product) (z .pair .pair))
 
 -- the chains with a rightmost degree below s
 pub record Below (m : ℕ) (f : List ℕ) (s c : ℕ) : Type 0 where

@@ -56,9 +56,9 @@ fn rightmost(f: Coefficients, n: usize, s: usize, table: &[u64; ENTRIES], m: u64
             right,
         };
     }
-    let b = chain::first_split(right, s, table, m);
+    let b = chain::splits(right, s, table, m);
     Ending {
-        found: !b.found,
+        found: !b,
         left,
         right,
     }

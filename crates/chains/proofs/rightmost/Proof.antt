@@ -24,21 +24,21 @@ returns-2 c =
     let d = half-degrees (p .1) (e .if1 .left) (p .2) (p .0 .whole .within) in
     missed (chainable (p .0)) (p .2) (miss (sym (c .before .refuses .ensures) ∙ c .if2 .taken) (left-coprime _ (p .0 .modulus .above-one) (p .0 .coprime) (d .product)) (c .before .before .before .before .split-at .ensures))
 
-first-split-requires : tie.Need-first-split-requires
-first-split-requires c κs =
+splits-requires : tie.Need-splits-requires
+splits-requires c κs =
     let e = c .before .before .before .before .before in
     let p = e .before .pre in
     let d = half-degrees (p .1) (e .if1 .left) (p .2) (p .0 .whole .within) in
     right-asked (p .0) (d .two-left) (d .two-right) (d .product) (hit (sym (c .before .refuses .ensures) ∙ c .if2 .left) (c .before .before .before .before .split-at .ensures))
 
--- it does, and the right part was searched
+-- it does, and the right part splits or does not
 returns-3 : tie.Need-returns-3
 returns-3 c =
-    let i = c .before .before in
+    let i = c .before in
     let e = i .before .before .before .before .before in
     let p = e .before .pre in
     let d = half-degrees (p .1) (e .if1 .left) (p .2) (p .0 .whole .within) in
-    tested (chainable (p .0)) (p .2) d (hit (sym (i .before .refuses .ensures) ∙ i .if2 .left) (i .before .before .before .before .split-at .ensures)) (c .before .first-split .ensures)
+    tested (chainable (p .0)) (p .2) d (hit (sym (i .before .refuses .ensures) ∙ i .if2 .left) (i .before .before .before .before .split-at .ensures)) (c .splits .ensures)
 
 pub rightmost-spec : {M : Type 1} → statement M
 rightmost-spec =
@@ -50,5 +50,5 @@ rightmost-spec =
     split-at-requires
     (λ c κs. search needs)
     returns-2
-    first-split-requires
+    splits-requires
     returns-3)
