@@ -68,8 +68,8 @@ desk_refused desk_change_pair(uint32_t m, const desk_polynomial g, const desk_po
 /* out: first (a, b), then (a2, b2), as one change; the change that undoes (a, b) */
 desk_refused desk_combine(uint32_t m, uint32_t a, uint32_t b, uint32_t a2, uint32_t b2, uint32_t out[2]);
 desk_refused desk_undo(uint32_t m, uint32_t a, uint32_t b, uint32_t out[2]);
-/* the complete chain of f in the area, its parts left to right; numbers: parts, tries, price (the multiplications that the parts
- * cost: n - 1 for one of degree n) */
+/* the chain of f by 01's rule, which is the first of its complete chains, in the area, its parts left to right; numbers: parts,
+ * tries, price (the multiplications that the parts cost: n - 1 for one of degree n) */
 desk_refused desk_chain(uint32_t m, const desk_polynomial f, uint32_t *area, size_t count, size_t numbers[3]);
 /* the number of f's complete chains that are normal: no part splits, and all parts but the leftmost have constant term 0 */
 desk_refused desk_count_chains(uint32_t m, const desk_polynomial f, size_t *number);

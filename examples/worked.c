@@ -85,9 +85,10 @@ static void nth_chain(const char *name, uint32_t m, const desk_polynomial f, siz
 /* The first chain whose part next to x has this degree, for a designer who would rather build that one there. */
 static void next_to_x(const char *name, uint32_t m, const desk_polynomial f, size_t degree) {
     uint32_t area[DESK_WORDS];
-    size_t numbers[2], place[2];
-    printf("%s:", name);
-    for (size_t j = 0; desk_nth_chain(m, f, j, area, DESK_WORDS, numbers).number == 0; j++) {
+    size_t number, numbers[2], place[2];
+    if (!answered(name, desk_count_chains(m, f, &number))) return;
+    for (size_t j = 0; j < number; j++) {
+        desk_nth_chain(m, f, j, area, DESK_WORDS, numbers);
         desk_part(area, DESK_WORDS, numbers[0] - 1, place);
         size_t n = place[1] - 1;
         while (area[place[0] + n] == 0) n--;

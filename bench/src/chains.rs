@@ -13,7 +13,7 @@ use std::hint::black_box;
 const PARTS: usize = 6;
 const WORDS: usize = PARTS * TERMS;
 
-/// Fewer calls in a run than in other rows have: the longest search takes a hundred splits.
+/// Fewer calls in a run than in other rows have: the longest search takes 121 splits.
 const CALLS: usize = 5;
 
 /// The pair of f at the right degree s, if there is one. The search is handed it, so that a run which counts the splits can hand

@@ -6,14 +6,14 @@
 --   pairs-equal                           two pairs with one right degree are equal
 --   chain-unique                          f has one chain, and it costs one number of tries
 --   chain-composed                        the parts compose back to f
+--   chain-product                         the degrees multiply to n
 --   right-unsplit                         the right part at the first right degree does not split
 --   chain-unsplit                         no part splits further
 --   chain-normal                          all but the leftmost have constant 0
---   part-of, chain-part                   what each part is
+--   monic-part, chain-part                what each part is
 --   composed-none, composed-more          what parts compose to is monic: x if there is none, and one part more
---   parts-length, parts-price             2^parts, and the price, are at most what the degrees multiply to
---   chain-product                         the degrees multiply to n
---   chain-length, chain-price             so many parts as 2^parts <= n allows; the price is at most n
+--   EachPart, parts-length, parts-price   of any parts: 2^parts, and the price, are at most what the degrees multiply to
+--   chain-length                          so many parts as 2^parts <= n allows
 --   price-parts                           the price and the number of parts add up to the sum of the degrees
 --   carried-unique                        carrying a change gives one answer
 --   degrees-length, price-degrees         there is a degree for each part; the degrees tell the price
@@ -150,15 +150,15 @@ chain-normal (whole a b none) i l = absurd (N.not-suc-le-zero (N.le-of-suc-le-su
 chain-normal (step a b e first p k) zero l = p .normal
 chain-normal (step a b e first p k) (suc i) l = chain-normal k i (N.le-of-suc-le-suc l)
 
--- reduced, monic and of a degree of 2 or more
-pub part-of : {m n : ℕ} {p : List ℕ} → 2 ≤ m → 2 ≤ n → Monic m n p → Reduced m p → Part m p
-part-of {m} {n} {p} two tn mon red = let e = degree-monic two red mon in record { reduced = red; monic = subst (λ (k : ℕ). Monic m k p) (sym e) mon; two = rw e tn }
+-- what is reduced and monic of a degree of 2 or more is a part
+pub monic-part : {m n : ℕ} {p : List ℕ} → 2 ≤ m → 2 ≤ n → Monic m n p → Reduced m p → Part m p
+monic-part {m} {n} {p} two tn mon red = let e = degree-monic two red mon in record { reduced = red; monic = subst (λ (k : ℕ). Monic m k p) (sym e) mon; two = rw e tn }
 
 -- every part is reduced, and monic of a degree of 2 or more
 pub chain-part : {m n t : ℕ} {f : List ℕ} {parts : List (List ℕ)} → 2 ≤ m → 2 ≤ n → Chain m n f parts t → (i : ℕ) → i < length parts → Part m (part parts i)
-chain-part two tn (whole a b none) zero l = part-of two tn a b
+chain-part two tn (whole a b none) zero l = monic-part two tn a b
 chain-part two tn (whole a b none) (suc i) l = absurd (N.not-suc-le-zero (N.le-of-suc-le-suc l))
-chain-part two tn (step a b e first p k) zero l = part-of two b (p .pair .right) (p .reduced-right)
+chain-part two tn (step a b e first p k) zero l = monic-part two b (p .pair .right) (p .reduced-right)
 chain-part two tn (step a b e first p k) (suc i) l = chain-part two a k i (N.le-of-suc-le-suc l)
 
 module _ {m : ℕ} (pos : 0 < m) where
@@ -200,12 +200,10 @@ parts-price {m} (h ∷ parts) p =
     let some : 1 ≤ product (degrees parts) = N.le-trans (N.pow-le-pow-right {n = 2} (omega arith) {i = 0} {j = length parts} (omega arith)) (parts-length parts others) in
     omega (arith, p 0 (omega arith) .two, parts-price parts others, one-less (degree h) (omega (arith, p 0 (omega arith) .two)) some)
 
--- so a chain has so many parts as 2^parts <= n allows, and its price is at most n
-pub chain-length : {m n t : ℕ} {f : List ℕ} {parts : List (List ℕ)} → 2 ≤ m → 2 ≤ n → Chain m n f parts t → 2 ^ length parts ≤ n
-chain-length {parts = parts} two tn k = rw (← chain-product two k) (parts-length parts (chain-part two tn k))
-
-pub chain-price : {m n t : ℕ} {f : List ℕ} {parts : List (List ℕ)} → 2 ≤ m → 2 ≤ n → Chain m n f parts t → price parts ≤ n
-chain-price {parts = parts} two tn k = rw (← chain-product two k) (parts-price parts (chain-part two tn k))
+-- so many parts of degree 2 or more fit under n
+pub chain-length : {m n t : ℕ} {f : List ℕ} {parts : List (List ℕ)} → 2 ≤ n → Chain m n f parts t → 2 ^ length parts ≤ n
+chain-length two (whole a b none) = two
+chain-length two (step {r = r} {s = s} {parts = parts} a b e first p k) = rw (N.pow-succ' 2 (length parts), ← e) (omega (arith, N.mul-le-mul (chain-length a k) b))
 
 carried-some : {m a b : ℕ} {y : List (List ℕ)} → Carried m a b [] y → ⊥
 carried-some c = elim c [ ]

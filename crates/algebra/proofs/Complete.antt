@@ -1,15 +1,17 @@
 -- Complete chains, taken apart from the right.
 --
---   Chainable m n f                       an f as the chain takes it: the hypothesis of these laws
 --   Cut m n f parts                       a complete chain, built part by part
---   complete-one, complete-more           f alone; a right part before a chain of the left part
---   cut-complete, complete-cut            what is built so is complete, and a complete chain is built so
 --   complete-product                      the degrees multiply to n
 --   complete-length, complete-price       so many parts as 2^parts <= n allows; the price is at most n
+--   complete-one, complete-more           f alone; a right part before a chain of the left part
+--   cut-complete                          what is built so is complete
 --   right-degree                          the degree of a right part
+--   chain-is-complete                     01's chain is complete
+--   Chainable m n f, low, degree-is       an f as the chain takes it, of a degree n below `terms`: the hypothesis of what follows
 --   left-chainable, right-chainable       the parts of a pair are as the chain takes them
+--   complete-cut                          a complete chain is built part by part
 --   complete-some, complete-unique        there is a part; the degrees tell the chain
---   chain-is-complete, chain-earliest     01's chain is complete, and no complete chain is earlier
+--   chain-earliest                        no complete chain is earlier than 01's
 --   complete-changed                      the changed f has the chain with the change carried along it, and the degrees stay
 use mathlib.Core.Path.{_≡_, refl, sym, ap, ap₂, subst, _∙_}
 use mathlib.Core.List.{List, [], _∷_}
@@ -67,7 +69,7 @@ module _ {m : ℕ} (two : 2 ≤ m) where
   complete-one {f = f} tn mon red u = record { is-part = is-part; unsplit = unsplit; normal = λ i l. absurd (omega arith); composes = same-sym (x-after m pos f) }
     where
       is-part : (i : ℕ) → i < 1 → Part m (part (f ∷ []) i)
-      is-part zero l = C.part-of two tn mon red
+      is-part zero l = C.monic-part two tn mon red
       is-part (suc i) l = absurd (N.not-suc-le-zero (N.le-of-suc-le-suc l))
 
       unsplit : (i : ℕ) → i < 1 → Unsplit m (part (f ∷ []) i)
@@ -80,7 +82,7 @@ module _ {m : ℕ} (two : 2 ≤ m) where
   complete-more {h = h} {parts = parts} b p u c = record { is-part = is-part; unsplit = unsplit; normal = normal; composes = p .pair .whole ⨾ after-same m pos (c .composes) (same-refl h) }
     where
       is-part : (i : ℕ) → i < length (h ∷ parts) → Part m (part (h ∷ parts) i)
-      is-part zero l = C.part-of two b (p .pair .right) (p .reduced-right)
+      is-part zero l = C.monic-part two b (p .pair .right) (p .reduced-right)
       is-part (suc i) l = c .is-part i (N.le-of-suc-le-suc l)
 
       unsplit : (i : ℕ) → i < length (h ∷ parts) → Unsplit m (part (h ∷ parts) i)
@@ -187,7 +189,7 @@ module _ {m : ℕ} (two : 2 ≤ m) where
   chain-first : {n t : ℕ} {f : List ℕ} {parts x : List (List ℕ)} → Invertible m n → Chain m n f parts t → Cut m n f x → Earlier x parts → ⊥
   chain-first i (whole a b none) (one tn mon red u) l = earlier-not _ l
   chain-first i (whole a b none) (more {s = s} c d e p u k) l = none s (C.splits c d e (p .pair))
-  chain-first i (step {r = r} {s = s} {g = g} {h = h} a b e first p k) (one tn mon red u) l = u .none r s a b (e ∙ sym (degree-monic two red mon)) g h (p .pair)
+  chain-first i (step {s = s} a b e first p k) (one tn mon red u) l = C.split-at two red mon u s (C.splits a b e (p .pair))
   chain-first {n} i (step {r = r} {s = s} {f = f} {g = g} {h = h} {parts = parts} a b e first p k) (more {r = r′} {s = s′} {g = g′} {h = h′} {parts = x} a′ b′ e′ p′ u′ k′) l =
       go (λ q z o. chain-first (invertible-left s i e) k (subst (λ (l : List ℕ). Cut m r l x) z (subst (λ (l : ℕ). Cut m l g′ x) q k′)) o) (earlier-apart l)
     where
@@ -227,21 +229,18 @@ module _ {m : ℕ} (two : 2 ≤ m) where
           turned : (x y z : ℕ) → x * (y * z) ≡ y * x * z
           turned x y z = omega arith
 
-  -- a change keeps that f does not split
-  unsplit-changed : {n a b : ℕ} {f f′ : List ℕ} → Invertible m a → degree f ≡ n → degree f′ ≡ n → Changed m n a b f f′ → Unsplit m f → Unsplit m f′
-  unsplit-changed {n} {f = f} i d d′ c u = record { none = λ r s x y e g h p. back (splits-unchanged pos i c (C.splits x y (e ∙ d′) p)) }
+  -- what splits only where f does, and has its degree, does not split if f does not
+  unsplit-as : {n : ℕ} {f f′ : List ℕ} → degree f ≡ n → degree f′ ≡ n → ((s : ℕ) → SplitsRight m n f′ s → SplitsRight m n f s) → Unsplit m f → Unsplit m f′
+  unsplit-as {n} {f} d d′ back u = record { none = λ r s x y e g h p. go (back s (C.splits x y (e ∙ d′) p)) }
     where
-      back : {s : ℕ} → SplitsRight m n f s → ⊥
-      back {s} w = u .none (w .r) s (w .two-left) (w .two-right) (w .degrees ∙ sym d) (w .g) (w .h) (w .pair)
+      go : {s : ℕ} → SplitsRight m n f s → ⊥
+      go {s} w = u .none (w .r) s (w .two-left) (w .two-right) (w .degrees ∙ sym d) (w .g) (w .h) (w .pair)
 
-  -- and that a right part does not
-  unsplit-changed-right : {s a b : ℕ} {h h′ : List ℕ} → Invertible m a → degree h ≡ s → degree h′ ≡ s → ChangedRight m s a b h h′ → Unsplit m h → Unsplit m h′
-  unsplit-changed-right {s} {h = h} i d d′ c u =
+  -- a change keeps that a right part does not split: the changed polynomial is the changed right part and a constant
+  raised-splits : {s t a b : ℕ} {h h′ : List ℕ} → Invertible m a → ChangedRight m s a b h h′ → SplitsRight m s h′ t → SplitsRight m s h t
+  raised-splits i c w =
       let (k, ch) = raised-changed i c in
-      record { none = λ r t x y e g w p. back (splits-unchanged pos i ch (C.splits x y (e ∙ d′) (pair-raised k x p))) }
-    where
-      back : {t : ℕ} → SplitsRight m s h t → ⊥
-      back {t} w = u .none (w .r) t (w .two-left) (w .two-right) (w .degrees ∙ sym d) (w .g) (w .h) (w .pair)
+      splits-unchanged pos i ch (C.splits (w .two-left) (w .two-right) (w .degrees) (pair-raised k (w .two-left) (w .pair)))
 
   -- the changed polynomial has the chain with the change carried along its parts, and the degrees stay
   cut-changed : {n a b : ℕ} {f f′ : List ℕ} {parts : List (List ℕ)} → n < terms → Invertible m a → Cut m n f parts → Reduced m f′ → Changed m n a b f f′
@@ -251,13 +250,13 @@ module _ {m : ℕ} (two : 2 ≤ m) where
       let mon′ = changed-monic pos (omega arith) i mon c in
       let d = degree-monic two red mon in
       let d′ = degree-monic two red′ mon′ in
-      (f′ ∷ [], one tn mon′ red′ (unsplit-changed i d d′ c u), leftmost mon red′ c, ap (λ (k : ℕ). k ∷ []) (d ∙ sym d′))
+      (f′ ∷ [], one tn mon′ red′ (unsplit-as d d′ (λ s w. splits-unchanged pos i c w) u), leftmost mon red′ c, ap (λ (k : ℕ). k ∷ []) (d ∙ sym d′))
   cut-changed {n} {f′ = f′} l i (more {r = r} {s = s} a b e p u k) red′ c =
       let z = C.sum-within a b e in
       let (g′, h′, d, q) = changed-pair-exists pos (omega arith) (omega arith) (omega arith) (omega arith) e i (p .pair) c in
       let (parts′, k′, car, deg) = cut-changed (omega arith) (invertible-pow i s) k (q .reduced-left) (d .left) in (
         h′ ∷ parts′,
-        more {parts = parts′} a b e q (unsplit-changed-right i (right-degree p) (right-degree q) (d .right) u) k′,
+        more {parts = parts′} a b e q (unsplit-as (right-degree p) (right-degree q) (λ t w. raised-splits i (d .right) w) u) k′,
         hand-on {parts′ = parts′} (p .pair .right) (q .reduced-right) (d .right) car,
         ap₂ _∷_ {v = degrees parts′} (right-degree p ∙ sym (right-degree q)) deg,
       )

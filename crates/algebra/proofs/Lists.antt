@@ -1,7 +1,7 @@
 -- Lists of chains in order.
 --
 --   earlier-not                          no chain is earlier than itself
---   earlier-trans                        of three
+--   earlier-trans                        of three chains
 --   earlier-first, earlier-more          a smaller rightmost degree; the same part before both
 --   earlier-apart, earlier-here          and back; at the rightmost part
 --   earlier-degrees                      only the degrees count
@@ -26,14 +26,6 @@ use Rattle.algebra.specs.Every.{Earlier, chain-at, Lists}
 pub earlier-not : (x : List (List ℕ)) → Earlier x x → ⊥
 earlier-not x e = N.lt-irrefl _ (e .smaller)
 
-earlier-back : {x y : List (List ℕ)} → Earlier x y → Earlier y x → ⊥
-earlier-back {x} {y} a b = go (decLt (a .place) (b .place)) (decLt (b .place) (a .place))
-  where
-    go : Dec (a .place < b .place) → Dec (b .place < a .place) → ⊥
-    go (yes l) d = omega (arith, a .smaller, b .same (a .place) l)
-    go (no l) (yes k) = omega (arith, b .smaller, a .same (b .place) k)
-    go (no l) (no k) = let e : a .place ≡ b .place = omega arith in omega (arith, a .smaller, rw (← e) at (b .smaller))
-
 pub earlier-trans : {x y z : List (List ℕ)} → Earlier x y → Earlier y z → Earlier x z
 earlier-trans {x} {y} {z} a b = go (decLt (a .place) (b .place)) (decLt (b .place) (a .place))
   where
@@ -44,6 +36,10 @@ earlier-trans {x} {y} {z} a b = go (decLt (a .place) (b .place)) (decLt (b .plac
     go (yes l) d = record { place = a .place; same = λ i h. same i h (omega arith); smaller = omega (arith, a .smaller, b .same (a .place) l) }
     go (no l) (yes k) = record { place = b .place; same = λ i h. same i (omega arith) h; smaller = omega (arith, b .smaller, a .same (b .place) k) }
     go (no l) (no k) = let e : a .place ≡ b .place = omega arith in record { place = a .place; same = λ i h. same i h (omega arith); smaller = omega (arith, a .smaller, rw (← e) at (b .smaller)) }
+
+-- so not both ways
+earlier-back : {x y : List (List ℕ)} → Earlier x y → Earlier y x → ⊥
+earlier-back {x} a b = earlier-not x (earlier-trans a b)
 
 pub earlier-first : {x y : List (List ℕ)} → degree (part x 0) < degree (part y 0) → Earlier x y
 earlier-first l = record { place = 0; same = λ i h. absurd (N.not-suc-le-zero h); smaller = l }

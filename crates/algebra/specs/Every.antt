@@ -21,7 +21,8 @@ pub record CompleteChain (m : ℕ) (f : List ℕ) (parts : List (List ℕ)) : Ty
   pub normal : (i : ℕ) → suc i < length parts → Normal m (part parts i)
   pub composes : Same m f (composed parts)
 
--- the degrees agree before a place, and there x has the smaller one
+-- the degrees agree before a place, and there x has the smaller one. Past the leftmost part the degree counts as 0; two complete
+-- chains of one f never differ there first, since the degrees of both multiply to n
 pub record Earlier (x y : List (List ℕ)) : Type 0 where
   pub place : ℕ
   pub same : (i : ℕ) → i < place → degree (part x i) ≡ degree (part y i)

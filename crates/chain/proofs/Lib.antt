@@ -1,3 +1,4 @@
+pub mod Asking
 pub mod Rounds
 pub mod Placing
 pub mod Answering

@@ -18,7 +18,8 @@ use native.Mathlib.Numerals.{add-one}
 use lib.ListN.{length, drop}
 use Rattle.algebra.specs.Polynomial.{terms, limit, Monic, Reduced}
 use Rattle.algebra.specs.Chain.{Chain, whole, step, price, cost}
-use Rattle.algebra.proofs.Chains.{sum-within, chain-length, chain-price}
+use Rattle.algebra.proofs.Chains.{sum-within, chain-length}
+use Rattle.algebra.proofs.Reduction.{degree-monic}
 use Rattle.area.specs.Area.{most-parts, put-at, laid}
 use Rattle.area.proofs.Laying.{Full, laid-none, laid-more, put-next}
 use Rattle.chain.specs.Chaining.{FirstSplit, NoSplit, ChainedIn}
@@ -39,14 +40,19 @@ module _ {m : ℕ} where
   tries-within (whole {n = n} a b none) = omega (arith, tested-few n (n / 2))
   tries-within (step {n = n} {s = s} a b e first p k) = omega (arith, tested-few n s, tries-within k, sum-within a b e)
 
+  price-within : {n t : ℕ} {f : List ℕ} {parts : List (List ℕ)} → 2 ≤ m → Chain m n f parts t → price parts ≤ n
+  unfolding price cost
+  price-within two (whole a b none) = omega (arith, degree-monic two b a)
+  price-within two (step a b e first p k) = omega (arith, degree-monic two (p .reduced-right) (p .pair .right), price-within two k, sum-within a b e)
+
   -- reduced parts have `terms` coefficients
   pub chain-full : {n t : ℕ} {f : List ℕ} {parts : List (List ℕ)} → Chain m n f parts t → Full parts
   chain-full (whole {f = f} a b none) = laid-more f (b .long) laid-none
   chain-full (step {h = h} a b e first p k) = laid-more h (p .reduced-right .long) (chain-full k)
 
   -- there is a place for each
-  pub parts-within : {n t : ℕ} {f : List ℕ} {parts : List (List ℕ)} → 2 ≤ m → 2 ≤ n → n ≤ limit → Chain m n f parts t → length parts ≤ most-parts
-  parts-within two tn l k = places-enough l (chain-length two tn k)
+  pub parts-within : {n t : ℕ} {f : List ℕ} {parts : List (List ℕ)} → 2 ≤ n → n ≤ limit → Chain m n f parts t → length parts ≤ most-parts
+  parts-within two l k = places-enough l (chain-length two k)
 
   -- f in the first place
   pub chained-whole : {n t c : ℕ} {f : List ℕ} (xs : List ℕ) → Monic m n f → Reduced m f → NoSplit m n f t → c ≡ cost f → ChainedIn m n f xs (put-at xs 0 f) 1 t c
@@ -70,8 +76,8 @@ module _ {m : ℕ} where
 
     module _ {xs ys : List ℕ} {k u c : ℕ} (q : ChainedIn m (n / s) g xs ys k u c) where
       -- the chain of f has no more parts than there are places, so the left part's has fewer
-      pub next-place : 2 ≤ m → 2 ≤ n → n ≤ limit → k < most-parts
-      next-place two tn l = omega (arith, q .count-is, parts-within two tn l (split-chain (q .chain)))
+      pub next-place : 2 ≤ n → n ≤ limit → k < most-parts
+      next-place two l = omega (arith, q .count-is, parts-within two l (split-chain (q .chain)))
 
       -- the right part goes there
       pub chained-more : {d : ℕ} → d ≡ cost h → ChainedIn m n f xs (put-at ys k h) (k + 1) (t + u) (c + d)
@@ -85,5 +91,5 @@ module _ {m : ℕ} where
       }
 
   -- its tries and its price fit a word
-  pub chained-within : {n k u c : ℕ} {f xs ys : List ℕ} → 2 ≤ m → 2 ≤ n → ChainedIn m n f xs ys k u c → (u ≤ n) × (c ≤ n)
-  chained-within two tn q = (tries-within (q .chain), omega (arith, q .cost-is, chain-price two tn (q .chain)))
+  pub chained-within : {n k u c : ℕ} {f xs ys : List ℕ} → 2 ≤ m → ChainedIn m n f xs ys k u c → (u ≤ n) × (c ≤ n)
+  chained-within two q = (tries-within (q .chain), omega (arith, q .cost-is, price-within two (q .chain)))

@@ -102,7 +102,7 @@ chain-complete {m} {f} {xs} {ys} {x} long (of.chained {parts = parts} {t = t} l 
     let acc = accepted-one long e in
     let two = accepted-above acc in
     let is-part = C.chain-part two (acc .two) k in
-    let most = parts-within two (acc .two) (degree-fits acc) k in
+    let most = parts-within (acc .two) (degree-fits acc) k in
     let fills : EachFills parts = λ i l. part-fills two (is-part i l) in
     let count = ap (λ (x : Chained). x .parts) p in (
       parts,

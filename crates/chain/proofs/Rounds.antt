@@ -9,12 +9,11 @@
 --   passed-hit                       one at which there is a pair: the first split
 --   passed-all                       all up to n/2: there is no split
 --   searched-splits                  so the round tells whether f splits
---   left-coprime                     a left degree shares no factor with m, as n does not
 --   hit, miss                        what the answer to a split says
 use mathlib.Core.Path.{_≡_, refl, sym, ap, subst, _∙_}
 use mathlib.Core.Bool.{Bool, true, false, false≢true}
 use mathlib.Core.List.{List}
-use Prim.Native.Nat.{ℕ, zero, suc, _+_, _*_, _-_, _/_, _%_, _≤_, _<_}
+use Prim.Native.Nat.{ℕ, zero, suc, _+_, _-_, _/_, _%_, _≤_, _<_}
 use native.Mathlib.Nat as N
 use native.Mathlib.Numerals.{sub-one}
 use native.Mathlib.Omega.{arith}
@@ -24,7 +23,6 @@ use Rattle.algebra.specs.Polynomial.{limit}
 use Rattle.algebra.specs.Pair.{Pair, NormalPair, NoPair, SplitsRight}
 use Rattle.algebra.specs.Chain.{divides, tested}
 use Rattle.algebra.proofs.Chains.{splits, split-half, unsplit-at, split-at}
-use Rattle.algebra.proofs.Factors.{coprime-invertible, invertible-coprime, invertible-left}
 use Rattle.polynomial.specs.Degrees.{Degrees}
 use Rattle.refusal.specs.Refusal.{is-refused}
 use Rattle.polynomial.specs.Answers.{no-parts}
@@ -131,10 +129,6 @@ searched-splits {m} {s = s} {f = f} a w = record {
   yes = λ z u. let k = w .yes z in split-at (a .modulus .above-one) (a .whole .reduced) (a .whole .monic) u s (splits (k .two-left) (k .two-right) (k .product) (k .pair .pair));
   no = λ z. unsplit-at (a .modulus .above-one) (a .whole .reduced) (a .whole .monic) (w .no z .none);
 }
-
--- a factor of n shares no factor with m, as n does not
-pub left-coprime : {m n r : ℕ} (s : ℕ) → 1 < m → Coprime n m → r * s ≡ n → Coprime r m
-left-coprime {m} s l c e = invertible-coprime m (omega arith) (invertible-left s (coprime-invertible m (omega arith) c) e)
 
 -- a split that is answered has the pair
 pub hit : {m r s : ℕ} {f : List ℕ} {x : Parts} → is-refused (x .outcome) ≡ false → SplitAnswer m f r s x → NormalPair m f r s (x .left) (x .right)

@@ -21,7 +21,7 @@ use Rattle.area.proofs.Laying.{written-is}
 use Rattle.chain.specs.Chaining.{Shares}
 use Rattle.chains.specs.declared.Numbered.{Numbered}
 use Rattle.chains.specs.declared.Chosen.{Chosen}
-use Rattle.chains.specs.Walking.{Counted, NthIn, Passed}
+use Rattle.chains.specs.Walking.{HasChains, NthIn, NoNth}
 use Rattle.chains.specs.Choosing.{unnumbered, unchosen, NumberOf, NthOf}
 use Rattle.chains.specs.Choosing as of
 use Rattle.chains.proofs.Walking.{complete-full}
@@ -34,7 +34,7 @@ module _ {m : ℕ} {f : List ℕ} {o : Outcome} (is : o ≡ check-one m f) where
     pub count-shared : {p : Outcome} {x : Numbered} → b ≡ true → p ≡ refusal Neither Factor → x ≡ unnumbered p → NumberOf m f x
     count-shared t w q = of.shared (sym is ∙ answered passed) (rw (← n-is) (s .yes t)) (q ∙ ap unnumbered w)
 
-    pub count-told : {c : ℕ} → b ≡ false → Counted m f c → NumberOf m f (record { outcome = Answered; number = c })
+    pub count-told : {c : ℕ} → b ≡ false → HasChains m f c → NumberOf m f (record { outcome = Answered; number = c })
     count-told t q = of.numbered (sym is ∙ answered passed) (rw (← n-is) (s .no t)) (q .every) (ap (λ (c : ℕ). record { outcome = Answered; number = c }) (q .is))
 
 module _ {m j : ℕ} {f xs : List ℕ} where
@@ -50,8 +50,8 @@ module _ {m j : ℕ} {f xs : List ℕ} where
       nth-shared t a w q = of.shared room (sym is ∙ answered passed) (rw (← n-is) (s .yes t)) a (q ∙ ap unchosen w)
 
       module _ (t : b ≡ false) {zs : List ℕ} (a : zs ≡ cleared xs) where
-        pub nth-beyond : {c : ℕ} {p : Outcome} {x : Chosen} → Passed m f j zs ys c → p ≡ refusal Neither Beyond → x ≡ unchosen p → NthOf m f j xs ys x
-        nth-beyond k w q = of.beyond room (sym is ∙ answered passed) (rw (← n-is) (s .no t)) (k .counted .every) (omega (arith, k .counted .is, k .most)) (k .area ∙ a) (q ∙ ap unchosen w)
+        pub nth-beyond : {c : ℕ} {p : Outcome} {x : Chosen} → NoNth m f j zs ys c → p ≡ refusal Neither Beyond → x ≡ unchosen p → NthOf m f j xs ys x
+        nth-beyond k w q = of.beyond room (sym is ∙ answered passed) (rw (← n-is) (s .no t)) (k .has .every) (omega (arith, k .has .is, k .most)) (k .area ∙ a) (q ∙ ap unchosen w)
 
         pub nth-told : {k c : ℕ} → 2 ≤ m → NthIn m f j zs ys k c → NthOf m f j xs ys (record { outcome = Answered; parts = k; price = c })
         nth-told {k} two q =

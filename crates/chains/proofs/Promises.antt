@@ -8,7 +8,7 @@
 --   NthParts, nth-complete                  demand 2: what the parts of the j-th chain are, and that they stand in the area
 --   Appears, each-appears                   each complete chain is the j-th for one j below the number
 --   nth-in-order                            the i-th is earlier than the j-th if i is below j
---   nth-first                               the first is 01's chain: the same answer, but for the tries, and the same area
+--   without-tries, nth-first                the first is 01's chain: the same answer, but for the tries, and the same area
 --   number-changed                          demand 3: the changed f has the same answer
 --   NthCarried, nth-changed                 demand 3: and its j-th chain is that of f with the change carried from the right
 use mathlib.Core.Path.{_≡_, refl, sym, ap, subst, _∙_}
@@ -35,9 +35,10 @@ use Rattle.refusal.specs.declared.Outcome.{Outcome}
 use Rattle.refusal.specs.declared.Outcome.the-variants.{Answered, Refused}
 use Rattle.refusal.proofs.Outcomes.{never}
 use Rattle.polynomial.specs.Checks.{check-one, Accepted}
-use Rattle.polynomial.proofs.Acceptance.{accepted-one, one-accepted, accepted-as, accepted-changed}
+use Rattle.polynomial.proofs.Acceptance.{accepted-one, one-accepted, accepted-changed}
 use Rattle.area.specs.Area.{most-parts, area-words, written, part-of}
 use Rattle.area.proofs.Reading.{handed-out, EachFills, part-fills, read-back, read-past}
+use Rattle.chain.proofs.Asking.{accepted-chainable}
 use Rattle.chain.specs.declared.Chained.{Chained}
 use Rattle.chain.specs.Chaining.{ChainOf}
 use Rattle.chain.specs.Chaining as chain
@@ -49,7 +50,7 @@ use Rattle.chains.proofs.Walking.{nth-within}
 
 -- an f that passes the checks
 checked-chainable : {m : ℕ} {f : List ℕ} → length f ≡ terms → check-one m f ≡ Answered → Coprime (degree f) m → Chainable m (degree f) f
-checked-chainable {m} long e c = let (w, held, two) = accepted-as refl (accepted-one long e) in record { modulus = w .above-one; whole = held; two = two; inverse = coprime-invertible m (let z = w .above-one in omega arith) c }
+checked-chainable long e c = accepted-chainable (accepted-one long e) c
 
 module _ {m : ℕ} {f : List ℕ} (long : length f ≡ terms) where
   -- the number is determined
@@ -254,8 +255,8 @@ module _ {m : ℕ} {f xs ys : List ℕ} {x : Chained} (long : length f ≡ terms
   pub nth-first : {zs : List ℕ} {y : Chosen} → ChainOf m f xs ys x → NthOf m f 0 xs zs y → (y ≡ without-tries x) × (zs ≡ ys)
   nth-first k q = nth-determined long q (as-first k)
 
--- the answers for f and for the changed f are the same, and the parts that the one area hands out are those of the other with the
--- change (a, b) carried from the right
+-- x is the answer for f and x′ that for the changed f, ys and ys′ the areas afterwards: the answers are the same, and the parts that
+-- ys′ hands out are those that ys hands out with the change (a, b) carried from the right
 pub record NthCarried (m a b : ℕ) (ys ys′ : List ℕ) (x x′ : Chosen) : Type 0 where
   pub same : x′ ≡ x
   pub carried : x .outcome ≡ Answered → Carried m a b (handed-out ys (x .parts)) (handed-out ys′ (x′ .parts))

@@ -1,12 +1,13 @@
 -- The complete chains of f counted, and walked through to the j-th, right degree by right degree.
 --
---   Rightmost m n f s g h           h, of degree s, is the rightmost part of a complete chain of f, and g is what is left of it
---   RightmostAt m n f s b g h       whether some complete chain of f has a rightmost part of degree s
---   Counted m f c                   f has c complete chains
---   NthIn m f j xs ys k c           the j-th chain of f stands in the first k places of ys, with its price c
---   Passed m f j xs ys c            f has c complete chains, which are not more than j, and nothing was written
---   Walked m f j xs ys b p k c      what the walk to the j-th chain finds
---   reached k c, passed p            how it says so
+--   Rightmost m n f s g h            h, of degree s, is the rightmost part of some complete chain of f, and g is what the others compose to
+--   unended f                        how a no is answered
+--   RightmostAt m n f s b g h        whether some complete chain of f has a rightmost part of degree s
+--   HasChains m f c                  f has c complete chains
+--   NthIn m f j xs ys k c            the j-th chain of f stands in the first k places of ys, with its price c
+--   NoNth m f j xs ys c              f has c complete chains, which are not more than j, and nothing was written
+--   reached k c, passed c            how a j-th chain is answered, and that there is none
+--   Walked m f j xs ys a             what the walk to the j-th chain finds
 use mathlib.Core.Path.{_≡_}
 use mathlib.Core.Bool.{Bool, true, false}
 use mathlib.Core.List.{List, _++_}
@@ -16,7 +17,8 @@ use Rattle.algebra.specs.Polynomial.{terms, degree}
 use Rattle.algebra.specs.Pair.{NormalPair, Unsplit}
 use Rattle.algebra.specs.Chain.{part, price}
 use Rattle.algebra.specs.Every.{CompleteChain, EveryChain, NthChain}
-use Rattle.area.specs.Area as area
+use Rattle.area.specs.Area.{laid}
+use Rattle.chains.specs.declared.Ending.{Ending}
 use Rattle.chains.specs.declared.Reach.{Reach}
 
 -- f splits at s, and its right part there does not split
@@ -27,13 +29,18 @@ pub record Rightmost (m n : ℕ) (f : List ℕ) (s : ℕ) (g h : List ℕ) : Typ
   pub pair : NormalPair m f (n / s) s g h
   pub unsplit : Unsplit m h
 
+-- a no, with f in place of both parts
+abbrev pub unended : List ℕ → Ending
+unended f = record { found = false; left = f; right = f }
+
 -- a yes with the pair, a no for all complete chains
 pub record RightmostAt (m n : ℕ) (f : List ℕ) (s : ℕ) (found : Bool) (g h : List ℕ) : Type 0 where
   pub yes : found ≡ true → Rightmost m n f s g h
   pub no : found ≡ false → (x : List (List ℕ)) → CompleteChain m f x → degree (part x 0) ≡ s → ⊥
+  pub beside : found ≡ false → (g ≡ f) × (h ≡ f)
 
 -- the list of all of them has length c
-pub record Counted (m : ℕ) (f : List ℕ) (c : ℕ) : Type 0 where
+pub record HasChains (m : ℕ) (f : List ℕ) (c : ℕ) : Type 0 where
   pub chains : List (List (List ℕ))
   pub every : EveryChain m f chains
   pub is : c ≡ length chains
@@ -44,23 +51,23 @@ pub record NthIn (m : ℕ) (f : List ℕ) (j : ℕ) (xs ys : List ℕ) (count co
   pub nth : NthChain m f j parts
   pub count-is : count ≡ length parts
   pub cost-is : cost ≡ price parts
-  pub area : ys ≡ area.laid parts ++ drop (count * terms) xs
+  pub area : ys ≡ laid parts ++ drop (count * terms) xs
 
 -- there is no j-th
-pub record Passed (m : ℕ) (f : List ℕ) (j : ℕ) (xs ys : List ℕ) (number : ℕ) : Type 0 where
-  pub counted : Counted m f number
+pub record NoNth (m : ℕ) (f : List ℕ) (j : ℕ) (xs ys : List ℕ) (number : ℕ) : Type 0 where
+  pub has : HasChains m f number
   pub most : number ≤ j
   pub area : ys ≡ xs
-
--- a yes with the j-th chain, a no with how many there are
-pub record Walked (m : ℕ) (f : List ℕ) (j : ℕ) (xs ys : List ℕ) (found : Bool) (number count cost : ℕ) : Type 0 where
-  pub yes : found ≡ true → NthIn m f j xs ys count cost
-  pub no : found ≡ false → Passed m f j xs ys number
 
 -- the j-th chain was reached
 abbrev pub reached : ℕ → ℕ → Reach
 reached count cost = record { found = true; number = 0; parts = count; price = cost }
 
--- there is no j-th
+-- there is no j-th, and all were passed
 abbrev pub passed : ℕ → Reach
 passed number = record { found = false; number = number; parts = 0; price = 0 }
+
+-- a yes with the j-th chain, a no with how many there are; zeros beside them
+pub data Walked (m : ℕ) (f : List ℕ) (j : ℕ) (xs ys : List ℕ) (a : Reach) : Type 0 where
+  yes : {count cost : ℕ} → NthIn m f j xs ys count cost → a ≡ reached count cost → Walked m f j xs ys a
+  no : {number : ℕ} → NoNth m f j xs ys number → a ≡ passed number → Walked m f j xs ys a

@@ -5,7 +5,7 @@ ghost use lib.ListN.{length};
 ghost use Rattle.polynomial.specs.Moduli.{modulus};
 ghost use Rattle.area.specs.Area.{area-words};
 ghost use Rattle.chain.specs.Chaining.{ChainAsked};
-ghost use Rattle.chains.specs.Walking.{RightmostAt, Counted, Walked, reached as reached-of, passed as passed-of};
+ghost use Rattle.chains.specs.Walking.{unended as unended-of, RightmostAt, HasChains, reached as reached-of, passed as passed-of, Walked};
 ghost use Rattle.chains.specs.Choosing.{unnumbered as unnumbered-of, unchosen as unchosen-of, NumberOf, NthOf};
 use binomial::ENTRIES;
 use polynomial::Coefficients;
@@ -26,11 +26,22 @@ pub struct Chosen {
     pub price: usize,
 }
 
-// Whether complete chains end in a part of some degree; that part, and the left part whose chains go on from it.
+// Whether some complete chain has a rightmost part of some degree; that part, and the left part that the others compose to.
 struct Ending {
     found: bool,
     left: Coefficients,
     right: Coefficients,
+}
+
+// No complete chain has one.
+fn unended(f: Coefficients) -> Ending
+    ensures { λ a. ⌜ a ≡ unended-of f ⌝ }
+{
+    Ending {
+        found: false,
+        left: f,
+        right: f,
+    }
 }
 
 // The rightmost part of degree s: the right part of f there, if it does not split.
@@ -39,26 +50,20 @@ fn rightmost(f: Coefficients, n: usize, s: usize, table: &[u64; ENTRIES], m: u64
     ensures { λ a. ⌜ RightmostAt m n f s (a .found) (a .left) (a .right) ⌝ }
 {
     if n % s != 0 {
-        return Ending {
-            found: false,
-            left: f,
-            right: f,
-        };
+        return unended(f);
     }
     let a = pair::split_at(f, n, n / s, s, table, m);
     let o = a.outcome;
     let left = a.left;
     let right = a.right;
     if refusal::refuses(o) {
-        return Ending {
-            found: false,
-            left,
-            right,
-        };
+        return unended(f);
     }
-    let b = chain::splits(right, s, table, m);
+    if chain::splits(right, s, table, m) {
+        return unended(f);
+    }
     Ending {
-        found: !b,
+        found: true,
         left,
         right,
     }
@@ -67,7 +72,7 @@ fn rightmost(f: Coefficients, n: usize, s: usize, table: &[u64; ENTRIES], m: u64
 // The number of complete chains: over the right degrees from 2 to n / 2, and f alone if none of them has any.
 fn count(f: Coefficients, n: usize, table: &[u64; ENTRIES], m: u64) -> usize
     requires { ⌜ ChainAsked m n f (now table) ⌝ }
-    ensures { λ c. ⌜ Counted m f c ⌝ }
+    ensures { λ c. ⌜ HasChains m f c ⌝ }
 {
     let mut c = 0;
     let mut s = 2;
@@ -128,7 +133,7 @@ fn walk(
     m: u64,
 ) -> Reach
     requires { ⌜ ChainAsked m n f (now table) × (area-words ≤ length (now area)) ⌝ }
-    ensures { λ a. ⌜ Walked m f j (now (area .entry)) (now (area .exit)) (a .found) (a .number) (a .parts) (a .price) ⌝ }
+    ensures { λ a. ⌜ Walked m f j (now (area .entry)) (now (area .exit)) a ⌝ }
 {
     let mut rest = j;
     let mut s = 2;

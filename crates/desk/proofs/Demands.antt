@@ -14,6 +14,7 @@
 --   every-chain-appears each complete chain is the j-th for one j below the number, and for no other: none is left out, none stands twice
 --   nth-chain-exact     there is a j-th chain exactly if j is below the number, and No. 18 exactly if it is not
 --   chains-in-order     the i-th is earlier than the j-th if i is below j
+--   order-strict        and that order is strict: no chain is earlier than itself, and of three it goes on
 --   first-chain         the first is the chain, area and all
 --   chains-within       there are 1 to n*n
 --   round-trip          composing a monic pair with h(0) = 0 and splitting it gives that pair back
@@ -38,6 +39,7 @@ use Rattle.algebra.specs.Chain.{Carried}
 use Rattle.algebra.specs.Every.{CompleteChain, Earlier}
 use Rattle.algebra.proofs.Factors.{coprime-invertible}
 use Rattle.algebra.proofs.Chains as algebra-law
+use Rattle.algebra.proofs.Lists.{earlier-not, earlier-trans}
 use Rattle.refusal.specs.Refusal.{refusal}
 use Rattle.refusal.specs.declared.Concerns.the-variants.{Neither}
 use Rattle.refusal.specs.declared.Reason.the-variants.{Beyond}
@@ -149,6 +151,9 @@ nth-chain-exact = chains-law.nth-exact
 pub chains-in-order : {m : ℕ} {f : List ℕ} → length f ≡ terms → {i j : ℕ} {xs ys xs′ ys′ : List ℕ} {x x′ : Chosen} → i < j → NthOf m f i xs ys x → NthOf m f j xs′ ys′ x′
     → x .outcome ≡ Answered → x′ .outcome ≡ Answered → Earlier (handed-out ys (x .parts)) (handed-out ys′ (x′ .parts))
 chains-in-order = chains-law.nth-in-order
+
+pub order-strict : ((x : List (List ℕ)) → Earlier x x → ⊥) × ((x y z : List (List ℕ)) → Earlier x y → Earlier y z → Earlier x z)
+order-strict = (earlier-not, λ x y z. earlier-trans)
 
 pub first-chain : {m : ℕ} {f xs ys : List ℕ} {x : Chained} → length f ≡ terms → {zs : List ℕ} {y : Chosen} → ChainOf m f xs ys x → NthOf m f 0 xs zs y
     → (y ≡ without-tries x) × (zs ≡ ys)

@@ -4,7 +4,7 @@
 --   coprime-words             what shares no factor with 2^32 is odd, and what is odd shares none
 --   split-even, split-odd     past the other refusals No. 5 is for an even r alone; only odd r can be split
 --   chain-even, chain-odd, chain-only-odd     past the other refusals No. 5 is for an even n alone and every odd n gets a chain; no other does
---   count-even, nth-even      and so for the number of chains and the j-th
+--   count-even, nth-even      past the other refusals No. 5 of the number of chains, and of the j-th, is for an even n alone
 --   proper-odd                a change is proper exactly if its a is odd
 --   polynomial-even, pair-even, undo-even, combine-even     so past the other refusals No. 8 is for an even a alone
 --   zero-record               a record of zero bytes is No. 3

@@ -27,8 +27,9 @@ use Rattle.algebra.proofs.Complete.{Chainable}
 use Rattle.refusal.specs.declared.Reason.the-variants.{Factor, NoPair}
 use Rattle.refusal.specs.declared.Outcome.the-variants.{Answered}
 use Rattle.polynomial.specs.Checks.{check-one, Accepted}
+use Rattle.chain.proofs.Asking.{accepted-chainable}
 use Rattle.polynomial.specs.Degrees.{Degrees}
-use Rattle.polynomial.proofs.Acceptance.{accepted-one, one-accepted, accepted-above, degree-fits}
+use Rattle.polynomial.proofs.Acceptance.{accepted-one, one-accepted, degree-fits}
 use Rattle.left.specs.Left.{NoLeft}
 use Rattle.polynomial.proofs.Filling.{zeros}
 use Rattle.composition.specs.Composition.{composition}
@@ -97,12 +98,7 @@ pair-padded {m} {f = f} {g = g} {h = h} a b c z w = record {
 
 -- f, padded, as the chain takes it
 pub chainable-padded : {m n : ℕ} {f : List ℕ} → Taken m n f → Invertible m n → Chainable m n (padded f)
-chainable-padded a i = record {
-  modulus = accepted-above (a .accepted);
-  whole = record { reduced = a .accepted .reduced; monic = monic a; within = rw (a .has) at (degree-fits (a .accepted)) };
-  two = two a;
-  inverse = i;
-}
+chainable-padded {m} a i = rw (a .has) at (accepted-chainable (a .accepted) (rw (a .has) (invertible-coprime m (positive a) i)))
 
 pub split-found : {m n r s : ℕ} {f g h : List ℕ} → Taken m n f → Taken m r g → Taken m s h → r * s ≡ n → Invertible m r → Normal m h → Same m f (after g h)
     → Holds (splits m f r g h)

@@ -1,7 +1,7 @@
 -- The starred worked polynomials of 01, and x^6 of request No. 5, as one table of claims over the contracts of the operations.
 --
 --   padded p         p as the desk holds it: `terms` places, zeros after those of p
---   Claim            what 01 says of a worked polynomial
+--   Claim            what 01, or 02, says of a worked polynomial
 --   Holds c          what the claim says: the answer that the operation's contract allows, all of it
 --   All l            every claim of the list holds
 --   starred          the table: A, B, C, D, F, G, H, I, J, and x^6 with its two complete chains
@@ -36,7 +36,7 @@ pub data Claim : Type 0 where
   nth-refused : ℕ → List ℕ → ℕ → ℕ → Claim
 
 -- f split at r gives g and h, or is refused by No. n; the left part of f for h is g, or is refused; f changed by (a, b) is f′; g after h is f;
--- f has so many complete chains; the j-th has these parts, listed from the right, and this price, or is refused, in any area
+-- f has so many complete chains; the j-th has these parts, listed from the right, and this price, or is refused, in any area that is long enough
 pub data Holds : Claim → Type 0 where
   split-is : {m r : ℕ} {f g h : List ℕ} → Splits m (padded f) r (record { outcome = Answered; left = padded g; right = padded h })
       → Holds (splits m f r g h)

@@ -40,7 +40,7 @@ pub told-answered : {m : ℕ} {f xs ys : List ℕ} {x : Chained} → ChainOf m f
 told-answered {f = f} {x = x} is long h =
     let (parts, c) = chain-complete long is (answered h) in
     let low = degree-fits (c .accepted) in
-    let w = chained-within {xs = []} {ys = laid parts ++ drop (x .parts * terms) []} (accepted-above (c .accepted)) (c .accepted .two) (record { parts = parts; chain = c .chain; count-is = c .count; cost-is = c .cost; area = refl }) in
+    let w = chained-within {xs = []} {ys = laid parts ++ drop (x .parts * terms) []} (accepted-above (c .accepted)) (record { parts = parts; chain = c .chain; count-is = c .count; cost-is = c .cost; area = refl }) in
     record { few-parts = omega (arith, c .count, c .most); few-tries = omega (arith, w .0); low-price = omega (arith, w .1); low-degree = low }
 
 module _ {m : ℕ} {f ys : List ℕ} {x : Chained} (is : ChainOf (modulus m) f blank ys x) {k q : ℕ} {before after : List ℕ} where

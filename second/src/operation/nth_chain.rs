@@ -16,6 +16,7 @@ use crate::polynomial::Polynomial;
 use crate::random::Random;
 use crate::refused::{Refused, FIRST};
 use crate::shape::plain_power;
+use crate::sheet::kinds;
 use crate::tally::Wanted;
 use crate::worked::{self, Coefficients};
 
@@ -61,10 +62,10 @@ impl Operation for NthChain {
             PARTS[5],
             FIRST_J,
             LATER_J,
-            "area of 762 words",
-            "area of 763 words or more",
-            "area of no words",
-            "area of 761 words",
+            kinds::FULL_AREA,
+            kinds::LONG_AREA,
+            kinds::NO_AREA,
+            kinds::SHORT_AREA,
             "No. 18 for a j of more than 4 bytes",
             "No. 18, area of 763 words or more",
         ],
@@ -134,8 +135,8 @@ impl Operation for NthChain {
 
 fn kinds_answered(of: &ChainIn, j: usize, answer: &Jth) -> Vec<&'static str> {
     let area = match of.area.len() {
-        AREA_WORDS => "area of 762 words",
-        _ => "area of 763 words or more",
+        AREA_WORDS => kinds::FULL_AREA,
+        _ => kinds::LONG_AREA,
     };
     let which = if j == 0 { FIRST_J } else { LATER_J };
     vec![PARTS[answer.parts - 1], area, which]
@@ -143,8 +144,8 @@ fn kinds_answered(of: &ChainIn, j: usize, answer: &Jth) -> Vec<&'static str> {
 
 fn kinds_short(of: &ChainIn) -> Vec<&'static str> {
     match of.area.len() {
-        0 => vec!["area of no words"],
-        761 => vec!["area of 761 words"],
+        0 => vec![kinds::NO_AREA],
+        n if n == AREA_WORDS - 1 => vec![kinds::SHORT_AREA],
         _ => Vec::new(),
     }
 }

@@ -8,7 +8,7 @@ use borrow.Fn.PlainCycle.{Measures, is, falls, and}
 use Rattle.algebra.specs.Polynomial.{terms, limit}
 use Rattle.algebra.proofs.Reduction.{degree-monic}
 use Rattle.area.specs.Area.{most-parts, area-words}
-use Rattle.chain.proofs.Rounds.{left-coprime}
+use Rattle.chain.proofs.Asking.{left-asked}
 use Rattle.chain.proofs.Placing.{chained-whole, chained-more, chained-within, next-place, left-less}
 use Rattle.chain.proofs.parts.Reads as parts
 use Rattle.chain.proofs.parts.Kinds as parts-kinds
@@ -57,19 +57,8 @@ parts-parts-requires t c κs =
     let e = c .before .before .before in
     let p = e .before .before .before .before .pre .1 in
     let z = e .before .before .first-split .ensures .yes (not-false _ (e .if1 .left)) in
-    let l = left-less z in (
-      omega arith,
-      (
-        record {
-          modulus = p .0 .modulus;
-          whole = record { reduced = z .pair .reduced-left; monic = z .pair .pair .left; within = omega arith };
-          two = z .two-left;
-          coprime = left-coprime _ (p .0 .modulus .above-one) (p .0 .coprime) (z .product);
-          binomials = p .0 .binomials;
-        },
-        p .1,
-      ),
-    )
+    let l = left-less z in
+    (omega arith, (left-asked (p .0) (z .two-left) (z .two-right) (z .product) (z .pair), p .1))
 
 -- there is a next place
 parts-put-requires-2 : (t : ℕ) → parts-lts.Need-put-requires-2 (parts-claims t) (parts-at t) parts.Post
@@ -77,7 +66,7 @@ parts-put-requires-2 t c κs =
     let e = c .before .before .before .before .before .before .before .before in
     let p = e .before .before .before .before .pre .1 in
     let z = e .before .before .first-split .ensures .yes (not-false _ (e .if1 .left)) in
-    (omega (arith, next-place z (c .before .before .before .before .parts .ensures) (p .0 .modulus .above-one) (p .0 .two) (p .0 .whole .within)), omega arith, z .pair .reduced-right .long)
+    (omega (arith, next-place z (c .before .before .before .before .parts .ensures) (p .0 .two) (p .0 .whole .within)), omega arith, z .pair .reduced-right .long)
 
 parts-add-count : (t : ℕ) → parts-lts.Need-add-count (parts-claims t) (parts-at t) parts.Post
 unfolding most-parts
@@ -85,7 +74,7 @@ parts-add-count t c =
     let e = c .before .before .before .before .before .before .before .before .before .before .before .before in
     let p = e .before .before .before .before .pre .1 in
     let z = e .before .before .first-split .ensures .yes (not-false _ (e .if1 .left)) in
-    omega (arith, next-place z (c .before .before .before .before .before .before .before .before .parts .ensures) (p .0 .modulus .above-one) (p .0 .two) (p .0 .whole .within))
+    omega (arith, next-place z (c .before .before .before .before .before .before .before .before .parts .ensures) (p .0 .two) (p .0 .whole .within))
 
 -- tries and price are at most n
 parts-add-tries : (t : ℕ) → parts-lts.Need-add-tries (parts-claims t) (parts-at t) parts.Post
@@ -94,7 +83,7 @@ parts-add-tries t c =
     let e = c .before .before .before .before .before .before .before .before .before .before .before .before .before .before in
     let p = e .before .before .before .before .pre .1 in
     let z = e .before .before .first-split .ensures .yes (not-false _ (e .if1 .left)) in
-    omega (arith, p .0 .whole .within, chained-within (p .0 .modulus .above-one) (p .0 .two) (chained-more z (c .before .before .before .before .before .before .before .before .before .before .parts .ensures) refl) .0)
+    omega (arith, p .0 .whole .within, chained-within (p .0 .modulus .above-one) (chained-more z (c .before .before .before .before .before .before .before .before .before .before .parts .ensures) refl) .0)
 
 parts-add-price : (t : ℕ) → parts-lts.Need-add-price (parts-claims t) (parts-at t) parts.Post
 unfolding limit
@@ -103,7 +92,7 @@ parts-add-price t c =
     let p = e .before .before .before .before .pre .1 in
     let z = e .before .before .first-split .ensures .yes (not-false _ (e .if1 .left)) in
     let d = c .before .cost2 .ensures _ (degree-monic (p .0 .modulus .above-one) (z .pair .reduced-right) (z .pair .pair .right)) in
-    omega (arith, p .0 .whole .within, chained-within (p .0 .modulus .above-one) (p .0 .two) (chained-more z (c .before .before .before .before .before .before .before .before .before .before .before .before .parts .ensures) d) .1)
+    omega (arith, p .0 .whole .within, chained-within (p .0 .modulus .above-one) (chained-more z (c .before .before .before .before .before .before .before .before .before .before .before .before .parts .ensures) d) .1)
 
 -- the parts of the left part, and the right part
 parts-returns-2 : (t : ℕ) → parts-lts.Need-returns-2 (parts-claims t) (parts-at t) parts.Post

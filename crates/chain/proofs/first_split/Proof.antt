@@ -4,7 +4,8 @@ use Prim.Native.Nat.{_+_, _-_, _/_, _≤_}
 use native.Mathlib.Omega.{arith}
 use borrow.Author.Needs.{needs}
 use borrow.Author.Tests.{not-true, not-false}
-use Rattle.chain.proofs.Rounds.{Passed, passed-none, passed-few, passed-over, passed-missed, passed-hit, passed-all, half-degrees, left-coprime, hit, miss}
+use Rattle.chain.proofs.Rounds.{Passed, passed-none, passed-few, passed-over, passed-missed, passed-hit, passed-all, half-degrees, hit, miss}
+use Rattle.chain.proofs.Asking.{left-coprime}
 use Rattle.chain.proofs.first_split.Statement.{statement}
 use Rattle.chain.proofs.first_split.Tie as tie
 

@@ -6,7 +6,8 @@ use borrow.Fn.Kinds.{In}
 use borrow.Fn.PlainCycle.{Measures, is, falls, and}
 use Rattle.algebra.specs.Polynomial.{limit}
 use Rattle.algebra.proofs.Chains.{sum-within}
-use Rattle.chains.proofs.Counting.{chainable, left-asked, Below, below-none, below-pass, below-take, below-few, counted-one, counted-all}
+use Rattle.chain.proofs.Asking.{chainable, left-asked}
+use Rattle.chains.proofs.Counting.{Below, below-none, below-pass, below-take, below-few, counted-one, counted-all}
 use Rattle.chains.proofs.count.Reads as count
 use Rattle.chains.proofs.count.Kinds as count-kinds
 use Rattle.chains.proofs.+count.Lts-count as count-lts

@@ -10,8 +10,8 @@ use Rattle.algebra.specs.Polynomial.{terms, limit}
 use Rattle.algebra.proofs.Chains.{sum-within}
 use Rattle.algebra.proofs.Complete.{degree-is, right-degree}
 use Rattle.area.specs.Area.{most-parts, area-words}
-use Rattle.chains.proofs.Counting.{chainable, left-asked}
-use Rattle.chains.proofs.Walking.{Gone, gone-none, gone-pass, gone-take, next-place, more-price, reached-more, passed-all, passed-one, reached-one}
+use Rattle.chain.proofs.Asking.{chainable, left-asked}
+use Rattle.chains.proofs.Walking.{Gone, gone-none, gone-pass, gone-take, walked-yes, walked-no, room-next, more-price, reached-more, all-passed, one-passed, reached-one}
 use Rattle.chains.proofs.walk.Reads as walk
 use Rattle.chains.proofs.walk.Kinds as walk-kinds
 use Rattle.chains.proofs.+walk.Lts-walk as walk-lts
@@ -62,8 +62,8 @@ walk-put-requires t c κs =
     let p = c .before .before .before .before .before .before .before .before .before .before .before .before .before .before .pre .1 in
     let k = chainable (p .0) in
     let z = c .before .before .before .before .before .before .before .before .before .before .rightmost .ensures .yes (c .before .before .before .before .before .before .before .before .before .if1 .taken) in
-    let q = c .before .before .before .before .before .before .walk .ensures .yes (c .before .before .before .if2 .taken) in
-    (omega (arith, next-place k (i .1) z q), omega (arith, ap length (i .0), p .1), z .pair .reduced-right .long)
+    let q = walked-yes (c .before .before .before .if2 .taken) (c .before .before .before .before .before .before .walk .ensures) in
+    (omega (arith, room-next k (i .1) z q), omega (arith, ap length (i .0), p .1), z .pair .reduced-right .long)
 
 walk-add-reached : (t : ℕ) → walk-lts.Need-add-reached (walk-claims t) (walk-at t) walk.Post walk-Inv-loop walk-μ-loop
 unfolding most-parts
@@ -72,8 +72,8 @@ walk-add-reached t c =
     let p = c .before .before .before .before .before .before .before .before .before .before .before .before .before .before .before .before .before .before .pre .1 in
     let k = chainable (p .0) in
     let z = c .before .before .before .before .before .before .before .before .before .before .before .before .before .before .rightmost .ensures .yes (c .before .before .before .before .before .before .before .before .before .before .before .before .before .if1 .taken) in
-    let q = c .before .before .before .before .before .before .before .before .before .before .walk .ensures .yes (c .before .before .before .before .before .before .before .if2 .taken) in
-    omega (arith, next-place k (i .1) z q)
+    let q = walked-yes (c .before .before .before .before .before .before .before .if2 .taken) (c .before .before .before .before .before .before .before .before .before .before .walk .ensures) in
+    omega (arith, room-next k (i .1) z q)
 
 -- the price is at most n
 walk-add-reached-2 : (t : ℕ) → walk-lts.Need-add-reached-2 (walk-claims t) (walk-at t) walk.Post walk-Inv-loop walk-μ-loop
@@ -83,7 +83,7 @@ walk-add-reached-2 t c =
     let p = c .before .before .before .before .before .before .before .before .before .before .before .before .before .before .before .before .before .before .before .before .pre .1 in
     let k = chainable (p .0) in
     let z = c .before .before .before .before .before .before .before .before .before .before .before .before .before .before .before .before .rightmost .ensures .yes (c .before .before .before .before .before .before .before .before .before .before .before .before .before .before .before .if1 .taken) in
-    let q = c .before .before .before .before .before .before .before .before .before .before .before .before .walk .ensures .yes (c .before .before .before .before .before .before .before .before .before .if2 .taken) in
+    let q = walked-yes (c .before .before .before .before .before .before .before .before .before .if2 .taken) (c .before .before .before .before .before .before .before .before .before .before .before .before .walk .ensures) in
     let d = c .before .cost .ensures _ (right-degree (k .modulus) (z .pair)) in
     omega (arith, p .0 .whole .within, more-price k (i .1) z q d)
 
@@ -94,13 +94,13 @@ walk-returns t c =
     let p = c .before .before .before .before .before .before .before .before .before .before .before .before .before .before .before .before .before .before .before .before .before .pre .1 in
     let k = chainable (p .0) in
     let z = c .before .before .before .before .before .before .before .before .before .before .before .before .before .before .before .before .before .rightmost .ensures .yes (c .before .before .before .before .before .before .before .before .before .before .before .before .before .before .before .before .if1 .taken) in
-    let q = c .before .before .before .before .before .before .before .before .before .before .before .before .before .walk .ensures .yes (c .before .before .before .before .before .before .before .before .before .before .if2 .taken) in
+    let q = walked-yes (c .before .before .before .before .before .before .before .before .before .before .if2 .taken) (c .before .before .before .before .before .before .before .before .before .before .before .before .before .walk .ensures) in
     let d = c .before .before .cost .ensures _ (right-degree (k .modulus) (z .pair)) in
     reached-more k (i .1) z q (i .0) d (c .before .before .before .before .before .before .put .ensures) (c .reached .ensures)
 
 walk-sub-rest : (t : ℕ) → walk-lts.Need-sub-rest (walk-claims t) (walk-at t) walk.Post walk-Inv-loop walk-μ-loop
 walk-sub-rest t c =
-    let q = c .before .before .before .before .walk .ensures .no (c .before .if2 .left) in
+    let q = walked-no (c .before .if2 .left) (c .before .before .before .before .walk .ensures) in
     omega (arith, q .most)
 
 -- those at s were passed, or there are none
@@ -110,11 +110,11 @@ walk-loop-again t c =
     let i = c .before .before .before .loop .inv in
     let a = c .before .rightmost in (
       ⊎-elim
-          (λ w. w .8 ∙ w .3 .ensures .no (w .6 .left) .area ∙ i .0)
+          (λ w. w .8 ∙ walked-no (w .6 .left) (w .3 .ensures) .area ∙ i .0)
           (λ w. w .1 ∙ i .0)
           (c .if1 .came),
       ⊎-elim
-          (λ w. let q = w .3 .ensures .no (w .6 .left) in rw (w .9) (gone-take k (i .1) (a .ensures .yes (w .0 .taken)) (q .counted) (q .most)))
+          (λ w. let q = walked-no (w .6 .left) (w .3 .ensures) in rw (w .9) (gone-take k (i .1) (a .ensures .yes (w .0 .taken)) (q .has) (q .most)))
           (λ w. rw (w .2) (gone-pass k (i .1) (a .ensures .no (w .0 .left))))
           (c .if1 .came),
       omega arith,
@@ -128,13 +128,13 @@ walk-returns-2 : (t : ℕ) → walk-lts.Need-returns-2 (walk-claims t) (walk-at 
 walk-returns-2 t c =
     let k = chainable (c .before .before .before .before .before .pre .1 .0) in
     let i = c .before .before .before .loop .inv in
-    passed-all k (omega arith) (i .1) (i .0) (c .before .if3 .taken) (c .passed .ensures)
+    all-passed k (omega arith) (i .1) (i .0) (c .before .if3 .taken) (c .passed .ensures)
 
 walk-returns-3 : (t : ℕ) → walk-lts.Need-returns-3 (walk-claims t) (walk-at t) walk.Post walk-Inv-loop walk-μ-loop
 walk-returns-3 t c =
     let k = chainable (c .before .before .before .before .before .before .pre .1 .0) in
     let i = c .before .before .before .before .loop .inv in
-    passed-one k (omega arith) (i .1) (i .0) (c .before .before .if3 .left) (omega (arith, c .before .if4 .taken)) (c .passed2 .ensures)
+    one-passed k (omega arith) (i .1) (i .0) (c .before .before .if3 .left) (omega (arith, c .before .if4 .taken)) (c .passed2 .ensures)
 
 walk-put-requires-2 : (t : ℕ) → walk-lts.Need-put-requires-2 (walk-claims t) (walk-at t) walk.Post walk-Inv-loop walk-μ-loop
 unfolding area-words most-parts terms limit

@@ -7,6 +7,7 @@ use Rattle.algebra.specs.Polynomial.{terms, limit}
 use Rattle.refusal.proofs.Outcomes.{answered}
 use Rattle.polynomial.proofs.Acceptance.{accepted-modulus, accepted-one, accepted-above, accepted-as}
 use Rattle.area.specs.Area.{most-parts, area-words}
+use Rattle.chains.proofs.Walking.{walked-yes, walked-no}
 use Rattle.chains.proofs.Answering.{nth-short, nth-refused, nth-shared, nth-beyond, nth-told}
 use Rattle.chains.proofs.nth_chain.Statement.{statement}
 use Rattle.chains.proofs.nth_chain.Tie as tie
@@ -60,7 +61,7 @@ returns-4 c =
     let e = c .before .before .before .before .before .before .before .before .before .before .before .before in
     rw (← e .before .before .before .before .before .before .before .before .before .before .before .modulus .ensures)
     (nth-beyond (e .before .before .before .before .before .before .before .before .before .before .if1 .left) (e .before .before .check-one .ensures) (sym (e .before .refuses .ensures) ∙ e .if2 .left) (e .before .before .before .before .degree .ensures) (c .before .before .before .before .before .before .before .before .before .before .before .shares .ensures) (c .before .before .before .before .before .before .before .before .before .before .if3 .left) (e .before .before .before .before .before .before .before .before .clear .ensures)
-    (c .before .before .before .before .before .before .walk .ensures .no (not-true _ (c .before .before .if4 .taken))) (c .before .refused3 .ensures) (c .unchosen4 .ensures))
+    (walked-no (not-true _ (c .before .before .if4 .taken)) (c .before .before .before .before .before .before .walk .ensures)) (c .before .refused3 .ensures) (c .unchosen4 .ensures))
 
 -- the j-th chain
 returns-5 : tie.Need-returns-5
@@ -70,7 +71,7 @@ returns-5 c =
     let a = sym (e .before .before .check-one .ensures) ∙ answered (sym (e .before .refuses .ensures) ∙ e .if2 .left) in
     rw (← e .before .before .before .before .before .before .before .before .before .before .before .modulus .ensures)
     (nth-told (e .before .before .before .before .before .before .before .before .before .before .if1 .left) (e .before .before .check-one .ensures) (sym (e .before .refuses .ensures) ∙ e .if2 .left) (e .before .before .before .before .degree .ensures) (c .before .before .before .before .before .before .before .before .before .shares .ensures) (c .before .before .before .before .before .before .before .before .if3 .left) (e .before .before .before .before .before .before .before .before .clear .ensures)
-    (accepted-above (accepted-one (long e) a)) (c .before .before .before .before .walk .ensures .yes (not-false _ (c .if4 .left))))
+    (accepted-above (accepted-one (long e) a)) (walked-yes (not-false _ (c .if4 .left)) (c .before .before .before .before .walk .ensures)))
 
 pub nth-chain-spec : {M : Type 1} → statement M
 unfolding terms limit most-parts area-words
