@@ -71,7 +71,8 @@ desk_refused desk_undo(uint32_t m, uint32_t a, uint32_t b, uint32_t out[2]);
 /* the chain of f by 01's rule, which is the first of its complete chains, in the area, its parts left to right; numbers: parts,
  * tries, price (the multiplications that the parts cost: n - 1 for one of degree n) */
 desk_refused desk_chain(uint32_t m, const desk_polynomial f, uint32_t *area, size_t count, size_t numbers[3]);
-/* the number of f's complete chains that are normal: no part splits, and all parts but the leftmost have constant term 0 */
+/* the number of f's complete chains that are normal, 1 to n*n: no part splits, and all parts but the leftmost have constant
+ * term 0 */
 desk_refused desk_count_chains(uint32_t m, const desk_polynomial f, size_t *number);
 /* the j-th of them, from 0, in the area as desk_chain writes it; numbers: parts, price. They are ordered by the degrees of their
  * parts read from the right, the part next to x first: the smaller degree at the first difference comes first. The 0th is
