@@ -1,7 +1,7 @@
 -- Counting the complete chains over the right degrees.
 --
---   undivided, missed                  no rightmost part of degree s: s does not divide n; there is no pair
---   splits-on, ends-there              there is a pair: its right part splits; or it does not
+--   undivided                          s does not divide n, so no complete chain has a rightmost part of degree s
+--   missed, splits-on, ends-there      it does: there is no pair; there is one, and its right part splits; or it does not
 --   Below m f s c                      c complete chains of f have a rightmost degree below s
 --   none-listed                        none of them
 --   below-none, below-pass, below-take     none is below 2; none at s; those at s are the chains of the left part
@@ -18,6 +18,7 @@ use Rattle.algebra.specs.Polynomial.{limit, degree}
 use Rattle.algebra.specs.Pair.{NormalPair, NoPair}
 use Rattle.algebra.specs.Chain.{part}
 use Rattle.algebra.specs.Every.{CompleteChain, Lists}
+use Rattle.algebra.proofs.Chains.{sum-within}
 use Rattle.algebra.proofs.Complete.{Chainable}
 use Rattle.algebra.proofs.Every as E
 use Rattle.algebra.proofs.Every.{RightAt, RightBelow}
@@ -33,14 +34,13 @@ module _ {m n : ℕ} {f : List ℕ} (t : Chainable m n f) {s : ℕ} where
   none-ends : {a : Ending} → ((x : List (List ℕ)) → RightAt m f s x → ⊥) → a ≡ unended f → RightmostAt m n f s (a .found) (a .left) (a .right)
   none-ends none is = rw is (record { yes = λ z. absurd (false≢true z); no = λ z x c e. none x (c, e); beside = λ z. (refl, refl) })
 
-  module _ {a : Ending} (half : s ≤ n / 2) where
-    -- no pair has a right degree that does not divide n
-    pub undivided : (n % s ≡ 0 → ⊥) → a ≡ unended f → RightmostAt m n f s (a .found) (a .left) (a .right)
-    undivided none = none-ends (E.at-none t (omega (arith, t .two, half)) (λ w. none (split-divides w)))
+  -- no pair has a right degree that does not divide n
+  pub undivided : s ≤ n / 2 → (n % s ≡ 0 → ⊥) → (x : List (List ℕ)) → CompleteChain m f x → degree (part x 0) ≡ s → ⊥
+  undivided half none x c e = E.at-none t (omega (arith, t .two, half)) (λ w. none (split-divides w)) x (c, e)
 
-    -- f does not split at s
-    pub missed : NoPair m f (n / s) s → a ≡ unended f → RightmostAt m n f s (a .found) (a .left) (a .right)
-    missed none = none-ends (E.at-none t (omega (arith, t .two, half)) (λ w. none (w .g) (w .h) (split-pair w)))
+  -- f does not split at s
+  pub missed : {a : Ending} → Degrees n (n / s) s → NoPair m f (n / s) s → a ≡ unended f → RightmostAt m n f s (a .found) (a .left) (a .right)
+  missed d none = none-ends (E.at-none t (omega (arith, d .two-left, sum-within (d .two-left) (d .two-right) (d .product))) (λ w. none (w .g) (w .h) (split-pair w)))
 
   module _ {g h : List ℕ} {b : Bool} (d : Degrees n (n / s) s) (p : NormalPair m f (n / s) s g h) (w : Splittable m h b) where
     -- it does, and the right part splits

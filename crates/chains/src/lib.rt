@@ -3,6 +3,7 @@ ghost use mathlib.Core.Path.{_≡_};
 ghost use Prim.Native.Nat.{_/_, _≤_};
 ghost use lib.ListN.{length};
 ghost use Rattle.polynomial.specs.Moduli.{modulus};
+ghost use Rattle.polynomial.specs.Degrees.{Degrees};
 ghost use Rattle.area.specs.Area.{area-words};
 ghost use Rattle.chain.specs.Chaining.{ChainAsked};
 ghost use Rattle.chains.specs.Walking.{unended as unended-of, RightmostAt, HasChains, reached as reached-of, passed as passed-of, Walked};
@@ -46,12 +47,9 @@ fn unended(f: Coefficients) -> Ending
 
 // The rightmost part of degree s: the right part of f there, if it does not split.
 fn rightmost(f: Coefficients, n: usize, s: usize, table: &[u64; ENTRIES], m: u64) -> Ending
-    requires { ⌜ ChainAsked m n f (now table) × (2 ≤ s) × (s ≤ n / 2) ⌝ }
+    requires { ⌜ ChainAsked m n f (now table) × Degrees n (n / s) s ⌝ }
     ensures { λ a. ⌜ RightmostAt m n f s (a .found) (a .left) (a .right) ⌝ }
 {
-    if n % s != 0 {
-        return unended(f);
-    }
     let a = pair::split_at(f, n, n / s, s, table, m);
     let o = a.outcome;
     let left = a.left;
@@ -77,10 +75,12 @@ fn count(f: Coefficients, n: usize, table: &[u64; ENTRIES], m: u64) -> usize
     let mut c = 0;
     let mut s = 2;
     while s <= n / 2 {
-        let a = rightmost(f, n, s, table, m);
-        if a.found {
-            let left = a.left;
-            c += count(left, n / s, table, m);
+        if n % s == 0 {
+            let a = rightmost(f, n, s, table, m);
+            if a.found {
+                let left = a.left;
+                c += count(left, n / s, table, m);
+            }
         }
         s += 1;
     }
@@ -138,16 +138,18 @@ fn walk(
     let mut rest = j;
     let mut s = 2;
     while s <= n / 2 {
-        let a = rightmost(f, n, s, table, m);
-        if a.found {
-            let left = a.left;
-            let c = walk(left, n / s, rest, area, table, m);
-            if c.found {
-                let right = a.right;
-                area::put(area, c.parts, &right);
-                return reached(c.parts + 1, c.price + chain::cost(s));
+        if n % s == 0 {
+            let a = rightmost(f, n, s, table, m);
+            if a.found {
+                let left = a.left;
+                let c = walk(left, n / s, rest, area, table, m);
+                if c.found {
+                    let right = a.right;
+                    area::put(area, c.parts, &right);
+                    return reached(c.parts + 1, c.price + chain::cost(s));
+                }
+                rest -= c.number;
             }
-            rest -= c.number;
         }
         s += 1;
     }

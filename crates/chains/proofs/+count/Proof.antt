@@ -7,7 +7,8 @@ use borrow.Fn.PlainCycle.{Measures, is, falls, and}
 use Rattle.algebra.specs.Polynomial.{limit}
 use Rattle.algebra.proofs.Chains.{sum-within}
 use Rattle.chain.proofs.Asking.{chainable, left-asked}
-use Rattle.chains.proofs.Counting.{Below, below-none, below-pass, below-take, below-few, counted-one, counted-all}
+use Rattle.chain.proofs.Rounds.{half-degrees}
+use Rattle.chains.proofs.Counting.{undivided, Below, below-none, below-pass, below-take, below-few, counted-one, counted-all}
 use Rattle.chains.proofs.count.Reads as count
 use Rattle.chains.proofs.count.Kinds as count-kinds
 use Rattle.chains.proofs.+count.Lts-count as count-lts
@@ -37,10 +38,15 @@ count-μ-loop f n table m c₀ s₀ c s = n / 2 + 1 - s
 count-loop-holds : (t : ℕ) → count-lts.Need-loop-holds (count-claims t) (count-at t) count.Post count-Inv-loop count-μ-loop
 count-loop-holds t c = (below-none (chainable (c .pre .1)), omega arith, omega arith)
 
+count-rightmost-requires : (t : ℕ) → count-lts.Need-rightmost-requires (count-claims t) (count-at t) count.Post count-Inv-loop count-μ-loop
+count-rightmost-requires t c κs =
+    let p = c .before .before .before .pre .1 in
+    (p, half-degrees (c .before .before .loop .inv .1) (c .if1 .taken) (omega arith) (p .whole .within))
+
 count-count-requires : (t : ℕ) → count-lts.Need-count-requires (count-claims t) (count-at t) count.Post count-Inv-loop count-μ-loop
 count-count-requires t c κs =
-    let p = c .before .before .before .before .before .pre .1 in
-    let z = c .before .before .rightmost .ensures .yes (c .before .if1 .taken) in
+    let p = c .before .before .before .before .before .before .pre .1 in
+    let z = c .before .before .rightmost .ensures .yes (c .before .if2 .taken) in
     let l = sum-within (z .two-left) (z .two-right) (z .product) in
     (omega (arith, l, z .two-right), left-asked p (z .two-left) (z .two-right) (z .product) (z .pair))
 
@@ -48,20 +54,21 @@ count-count-requires t c κs =
 count-add-c : (t : ℕ) → count-lts.Need-add-c (count-claims t) (count-at t) count.Post count-Inv-loop count-μ-loop
 unfolding limit
 count-add-c t c =
-    let k = chainable (c .before .before .before .before .before .before .pre .1) in
-    let i = c .before .before .before .before .before .loop .inv in
-    let z = c .before .before .before .rightmost .ensures .yes (c .before .before .if1 .taken) in
+    let k = chainable (c .before .before .before .before .before .before .before .pre .1) in
+    let i = c .before .before .before .before .before .before .loop .inv in
+    let z = c .before .before .before .rightmost .ensures .yes (c .before .before .if2 .taken) in
     record { fits = omega (arith, below-few k (omega arith) (omega arith) (below-take k (i .0) z (c .count .ensures))) }
 
 -- the chains of the left part at s, or none
 count-loop-again : (t : ℕ) → count-lts.Need-loop-again (count-claims t) (count-at t) count.Post count-Inv-loop count-μ-loop
 count-loop-again t c =
-    let k = chainable (c .before .before .before .before .pre .1) in
-    let i = c .before .before .before .loop .inv in
-    let a = c .before .rightmost in (
+    let k = chainable (c .before .before .before .pre .1) in
+    let i = c .before .before .loop .inv in (
       ⊎-elim
-          (λ w. rw (w .3) (below-take k (i .0) (a .ensures .yes (w .0 .taken)) (w .2 .ensures)))
-          (λ w. rw (w .1) (below-pass k (i .0) (a .ensures .no (w .0 .left))))
+          (λ w. rw (w .5) (below-take k (i .0) (w .1 .ensures .yes (w .2 .taken)) (w .4 .ensures)))
+          (⊎-elim
+          (λ w. rw (w .3) (below-pass k (i .0) (w .1 .ensures .no (w .2 .left))))
+          (λ w. rw (w .1) (below-pass k (i .0) (undivided k (omega arith) (w .0 .left)))))
           (c .if1 .came),
       omega arith,
       omega arith,
@@ -69,7 +76,7 @@ count-loop-again t c =
 
 -- f alone
 count-returns : (t : ℕ) → count-lts.Need-returns (count-claims t) (count-at t) count.Post count-Inv-loop count-μ-loop
-count-returns t c = counted-one (chainable (c .before .before .before .pre .1)) (omega arith) (rw (c .if2 .taken) at (c .before .before .loop .inv .0))
+count-returns t c = counted-one (chainable (c .before .before .before .pre .1)) (omega arith) (rw (c .if3 .taken) at (c .before .before .loop .inv .0))
 
 count-returns-2 : (t : ℕ) → count-lts.Need-returns-2 (count-claims t) (count-at t) count.Post count-Inv-loop count-μ-loop
 count-returns-2 t c = counted-all (chainable (c .before .before .before .pre .1)) (omega arith) (omega arith) (c .before .before .loop .inv .0)
@@ -85,7 +92,8 @@ pub +count-spec : {M : Type 1} → statement M
     count-Inv-loop
     count-μ-loop
     (count-loop-holds t)
-    (λ c κs. search needs)
+    (λ c. search needs)
+    (count-rightmost-requires t)
     (λ c. search needs)
     (count-count-requires t)
     (count-add-c t)
