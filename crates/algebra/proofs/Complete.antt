@@ -9,6 +9,7 @@
 --   chain-is-complete                     01's chain is complete
 --   Chainable m n f, low, degree-is       an f as the chain takes it, of a degree n below `terms`: the hypothesis of what follows
 --   left-chainable, right-chainable       the parts of a pair are as the chain takes them
+--   split-normal                          a split has its normal pair
 --   complete-cut                          a complete chain is built part by part
 --   complete-some, complete-unique        there is a part; the degrees tell the chain
 --   chain-earliest                        no complete chain is earlier than 01's
@@ -32,7 +33,7 @@ use Rattle.algebra.proofs.Coefficients.{coef-plus}
 use Rattle.algebra.proofs.Reduction.{reduced-reduced, monic-reduced, monic-degree, degree-monic, reduced-equal}
 use Rattle.algebra.proofs.Factors.{invertible-left, invertible-pow}
 use Rattle.algebra.proofs.Changes.{changed-monic, splits-unchanged}
-use Rattle.algebra.proofs.Pairs.{changed-pair-exists}
+use Rattle.algebra.proofs.Pairs.{changed-pair-exists, normalised}
 use Rattle.algebra.proofs.Chains as C
 use Rattle.algebra.proofs.Lists.{earlier-not, earlier-apart}
 
@@ -283,6 +284,15 @@ module _ {m n : ℕ} {f : List ℕ} (t : Chainable m n f) where
 
     pub right-chainable : Chainable m s h
     right-chainable = record { modulus = t .modulus; whole = record { reduced = p .reduced-right; monic = p .pair .right; within = omega (arith, t .whole .within, C.sum-within a b e) }; two = b; inverse = invertible-left r (t .inverse) (N.mul-comm s r ∙ e) }
+
+  -- a split has its normal pair, and the left part is as the chain takes it, of a smaller degree
+  pub split-normal : {s : ℕ} (w : SplitsRight m n f s) → (g h : List ℕ) × NormalPair m f (w .r) s g h × Chainable m (w .r) g × (w .r < n)
+  split-normal {s} w =
+      let a = w .two-left in
+      let b = w .two-right in
+      let z = C.sum-within a b (w .degrees) in
+      let (g, h, p) = normalised (omega (arith, t .modulus)) (omega (arith, a)) (omega (arith, b)) (omega (arith, low, z)) (omega (arith, low, z)) (w .pair) in
+      (g, h, p, left-chainable a b (w .degrees) p, omega (arith, z, b))
 
   -- a complete chain is built part by part
   pub complete-cut : (x : List (List ℕ)) → CompleteChain m f x → Cut m n f x

@@ -25,10 +25,9 @@ use Rattle.algebra.specs.Pair.{NormalPair, SplitsRight, Unsplit}
 use Rattle.algebra.specs.Chain.{Chain, part}
 use Rattle.algebra.specs.Every.{CompleteChain, Earlier, chain-at, Lists, EveryChain, NthChain}
 use Rattle.algebra.proofs.Reduction.{degree-monic}
-use Rattle.algebra.proofs.Pairs.{normalised}
 use Rattle.algebra.proofs.Chains as C
 use Rattle.algebra.proofs.Lists.{earlier-first, earlier-more, earlier-apart, earlier-here, lists-unique, lists-as, lists-none, lists-one, lists-append, lists-before, lists-earlier}
-use Rattle.algebra.proofs.Complete.{Chainable, low, degree-is, left-chainable, Cut, one, more, cut-complete, complete-cut, complete-one, complete-more, right-degree, chain-is-complete, chain-earliest}
+use Rattle.algebra.proofs.Complete.{Chainable, degree-is, split-normal, Cut, one, more, cut-complete, complete-cut, complete-one, complete-more, right-degree, chain-is-complete, chain-earliest}
 
 -- the complete chains whose rightmost part has degree s
 abbrev pub RightAt : ℕ → List ℕ → ℕ → List (List ℕ) → Type 0
@@ -122,15 +121,10 @@ module _ {m n : ℕ} {f : List ℕ} (t : Chainable m n f) where
       → (j s : ℕ) → s < j → SplitsRight m n f s → ⊥
   no-split half none left zero s l w = N.not-suc-le-zero l
   no-split {k} half none left (suc j) s l w =
-      let rs = w .degrees in
-      let r = w .r in
-      let a = w .two-left in
       let b = w .two-right in
-      let rl : r < n = omega (arith, rs, N.mul-le-mul-left r b) in
-      let sl : s < n = omega (arith, C.sum-within a b rs, a) in
-      let (g, h, p) = normalised (omega (arith, t .modulus)) (omega arith) (omega arith) (omega (arith, low t)) (omega (arith, low t)) (w .pair) in
-      let u = C.right-unsplit (t .modulus) a b rs (λ d z v. no-split half none left j d (omega arith) v) p in
-      left r g rl (left-chainable t a b rs p) (λ x c. none (h ∷ x) (complete-more (t .modulus) b p u c, omega (arith, right-degree (t .modulus) p, C.split-half w)))
+      let (g, h, p, q, less) = split-normal t w in
+      let u = C.right-unsplit (t .modulus) (w .two-left) b (w .degrees) (λ d z v. no-split half none left j d (omega arith) v) p in
+      left (w .r) g less q (λ x c. none (h ∷ x) (complete-more (t .modulus) b p u c, omega (arith, right-degree (t .modulus) p, C.split-half w)))
 
 -- no f has no complete chain
 some : (k n : ℕ) → n < k → {m : ℕ} {f : List ℕ} → Chainable m n f → ((x : List (List ℕ)) → CompleteChain m f x → ⊥) → ⊥

@@ -16,9 +16,8 @@ use lib.Seq.{ext-getD, length-take-le}
 use Rattle.algebra.specs.Pair.{SplitsRight, Unsplit}
 use Rattle.algebra.specs.Chain.{degrees}
 use Rattle.algebra.specs.Every.{CompleteChain, Earlier, chain-at, Lists, EveryChain, NthChain}
-use Rattle.algebra.proofs.Pairs.{normalised}
 use Rattle.algebra.proofs.Lists.{earlier-trans, lists-unique, lists-earlier, lists-as, lists-none}
-use Rattle.algebra.proofs.Complete.{Chainable, low, left-chainable, complete-unique}
+use Rattle.algebra.proofs.Complete.{Chainable, split-normal, complete-unique}
 use Rattle.algebra.proofs.Every.{RightAt, RightBelow, every-unique, below-none, at-none, at-split, at-before, below-more, every-one, every-below, nth-at}
 
 -- c chains below s = d + 2, and e at s
@@ -44,13 +43,11 @@ module _ {m n : ℕ} {f : List ℕ} (t : Chainable m n f) where
       found : SplitsRight m n f s → ⊥
       found w =
           let e = w .degrees in
-          let r = w .r in
           let a = w .two-left in
           let b = w .two-right in
-          let rl : r < n = omega (arith, e, N.mul-le-mul-left r b) in
-          let (g, h, p) = normalised (omega (arith, t .modulus)) (omega arith) (omega arith) (omega (arith, low t)) (omega (arith, low t)) (w .pair) in
+          let (g, h, p, q′, less) = split-normal t w in
           either {A = Unsplit m h} (λ splits. no-list [] (lists-none (RightAt m f s) (at-split t a b e p splits)) (omega (arith, N.zero-mul (s * s))))
-          (λ u. left r g rl (left-chainable t a b e p) (λ k q c. no-list (map (λ x. h ∷ x) k) (at-before t a b e p u q) (room-left r s n _ e (omega (arith, c, length-map k (λ x. h ∷ x))))))
+          (λ u. left (w .r) g less q′ (λ k q c. no-list (map (λ x. h ∷ x) k) (at-before t a b e p u q) (room-left (w .r) s n _ e (omega (arith, c, length-map k (λ x. h ∷ x))))))
 
   -- right degree by right degree
   below-built : ((r : ℕ) (g : List ℕ) → r < n → Chainable m r g → ((l : List (List (List ℕ))) → EveryChain m g l → length l ≤ r * r → ⊥) → ⊥)

@@ -9,6 +9,7 @@
 --   read-back               the parts that were written are handed out
 --   written-long            an area is as long as it was
 --   read-past               and after the last of them nothing
+--   parts-handed            so parts of a chain that were written are what the area hands out
 use mathlib.Core.Path.{_≡_, refl, sym, ap, ap₂, _∙_}
 use mathlib.Core.Bool.{Bool, true, false, _&&_}
 use mathlib.Core.List.{List, [], _∷_, _++_, append-assoc}
@@ -141,3 +142,10 @@ module _ (xs : List ℕ) (parts : List (List ℕ)) (f : EachFills parts) (most :
       go : Dec (i < most-parts) → part-of (written xs parts) i ≡ []
       go (yes h) = part-empty (written xs parts) i h (omega (arith, written-long)) (unused i u h) (zeros terms)
       go (no h) = sym (past (written xs parts) i (omega arith))
+
+-- parts of a chain that were written, read back
+pub parts-handed : {m k : ℕ} {ys : List ℕ} (xs : List ℕ) (parts : List (List ℕ)) → 2 ≤ m → ((i : ℕ) → i < length parts → Part m (part parts i)) → length parts ≤ most-parts
+    → area-words ≤ length xs → ys ≡ written xs parts → k ≡ length parts → (handed-out ys k ≡ parts) × ((i : ℕ) → k ≤ i → part-of ys i ≡ [])
+parts-handed xs parts two is most room a e =
+    let fills : EachFills parts = λ i l. part-fills two (is i l) in
+    (rw (a, e) (read-back xs parts fills most room), λ i h. rw a (read-past xs parts fills most room i (omega arith)))

@@ -1,7 +1,6 @@
 -- What a chain is given, and what the laws of complete chains ask.
 --
---   coprime-chainable                  a polynomial as a leaf holds it, of a degree that shares no factor with m
---   chainable, accepted-chainable      so what the code is given, and what passes the checks
+--   chainable, accepted-chainable      what the code is given, and what passes the checks, as the laws ask
 --   left-coprime                       a left degree shares no factor with m, as n does not
 --   left-asked, right-asked            the parts of a pair are what the chain takes
 use mathlib.Core.Path.{_≡_, refl, _∙_}
@@ -20,7 +19,7 @@ use Rattle.polynomial.proofs.Acceptance.{accepted-as}
 use Rattle.chain.specs.Chaining.{ChainAsked}
 
 -- n shares no factor with m, so it has an inverse
-pub coprime-chainable : {m n : ℕ} {f : List ℕ} → 1 < m → Held m n f → 2 ≤ n → Coprime n m → Chainable m n f
+coprime-chainable : {m n : ℕ} {f : List ℕ} → 1 < m → Held m n f → 2 ≤ n → Coprime n m → Chainable m n f
 coprime-chainable {m} l held two c = record { modulus = l; whole = held; two = two; inverse = coprime-invertible m (omega arith) c }
 
 pub chainable : {m n : ℕ} {f table : List ℕ} → ChainAsked m n f table → Chainable m n f

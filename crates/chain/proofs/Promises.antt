@@ -28,7 +28,7 @@ use Rattle.refusal.proofs.Outcomes.{never}
 use Rattle.polynomial.specs.Checks.{check-one, Accepted}
 use Rattle.polynomial.proofs.Acceptance.{accepted-one, one-accepted, accepted-above, accepted-changed, degree-fits}
 use Rattle.area.specs.Area.{most-parts, area-words, written, part-of}
-use Rattle.area.proofs.Reading.{handed-out, EachFills, part-fills, read-back, read-past}
+use Rattle.area.proofs.Reading.{handed-out, parts-handed}
 use Rattle.chain.specs.declared.Chained.{Chained}
 use Rattle.chain.specs.Chaining.{unchained, ChainOf}
 use Rattle.chain.specs.Chaining as of
@@ -103,8 +103,8 @@ chain-complete {m} {f} {xs} {ys} {x} long (of.chained {parts = parts} {t = t} l 
     let two = accepted-above acc in
     let is-part = C.chain-part two (acc .two) k in
     let most = parts-within (acc .two) (degree-fits acc) k in
-    let fills : EachFills parts = λ i l. part-fills two (is-part i l) in
-    let count = ap (λ (x : Chained). x .parts) p in (
+    let count = ap (λ (x : Chained). x .parts) p in
+    let (handed, past) = parts-handed xs parts two is-part most l a count in (
       parts,
       record {
         room = l;
@@ -121,8 +121,8 @@ chain-complete {m} {f} {xs} {ys} {x} long (of.chained {parts = parts} {t = t} l 
         count = count;
         cost = ap (λ (x : Chained). x .price) p;
         area = a;
-        handed = rw (a, count) (read-back xs parts fills most l);
-        past = λ i h. rw a (read-past xs parts fills most l i (omega arith));
+        handed = handed;
+        past = past;
       },
     )
 

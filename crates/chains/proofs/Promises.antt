@@ -37,7 +37,7 @@ use Rattle.refusal.proofs.Outcomes.{never}
 use Rattle.polynomial.specs.Checks.{check-one, Accepted}
 use Rattle.polynomial.proofs.Acceptance.{accepted-one, one-accepted, accepted-changed}
 use Rattle.area.specs.Area.{most-parts, area-words, written, part-of}
-use Rattle.area.proofs.Reading.{handed-out, EachFills, part-fills, read-back, read-past}
+use Rattle.area.proofs.Reading.{handed-out, parts-handed}
 use Rattle.chain.proofs.Asking.{accepted-chainable}
 use Rattle.chain.specs.declared.Chained.{Chained}
 use Rattle.chain.specs.Chaining.{ChainOf}
@@ -176,8 +176,8 @@ nth-complete long (of.beyond l e c k b a p) z = absurd (never (ap (λ (x : Chose
 nth-complete {xs = xs} long (of.chosen {parts = parts} l e c k a p) z =
     let t = checked-chainable long e c in
     let most = nth-within t (k .complete) .0 in
-    let fills : EachFills parts = λ i l. part-fills (t .modulus) (k .complete .is-part i l) in
-    let count = ap (λ (x : Chosen). x .parts) p in (
+    let count = ap (λ (x : Chosen). x .parts) p in
+    let (handed, past) = parts-handed xs parts (t .modulus) (k .complete .is-part) most l a count in (
       parts,
       record {
         room = l;
@@ -190,8 +190,8 @@ nth-complete {xs = xs} long (of.chosen {parts = parts} l e c k a p) z =
         count = count;
         cost = ap (λ (x : Chosen). x .price) p;
         area = a;
-        handed = rw (a, count) (read-back xs parts fills most l);
-        past = λ i h. rw a (read-past xs parts fills most l i (omega arith));
+        handed = handed;
+        past = past;
       },
     )
 
