@@ -11,10 +11,11 @@ use native.Mathlib.Nat.{eq-or-lt-of-le, mul-suc, mul-le-mul-left}
 use lib.ListN.{length, take, drop, set, length-drop, drop-of-length-le}
 use lib.Seq.{sets, length-sets, drop-drop, take-all}
 use Rattle.algebra.specs.Polynomial.{terms, limit}
+use Rattle.digits.specs.Digits.{Put}
+use Rattle.digits.proofs.Text.{put-append, put-most}
 use Rattle.record.specs.Record.{record-bytes}
-use Rattle.listing.specs.Text.{most-line, Put}
+use Rattle.listing.specs.Text.{most-line}
 use Rattle.listing.specs.Listing.{Lines, none, more, LineIn, LinesIn, most-records, most-lines, RecordEnd}
-use Rattle.listing.proofs.Text.{put-append, put-most}
 
 -- ---- stores into a part, said of the whole
 

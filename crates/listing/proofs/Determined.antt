@@ -20,6 +20,7 @@ use Rattle.refusal.specs.declared.Reason.the-variants.{Factor}
 use Rattle.refusal.specs.declared.Outcome.{Outcome}
 use Rattle.refusal.specs.declared.Outcome.the-variants.{Answered}
 use Rattle.refusal.proofs.Outcomes.{never}
+use Rattle.digits.specs.Digits.{Put}
 use Rattle.polynomial.specs.Moduli.{modulus}
 use Rattle.polynomial.proofs.Acceptance.{accepted-above}
 use Rattle.area.specs.Area.{area-words}
@@ -28,7 +29,7 @@ use Rattle.chain.specs.declared.Chained.{Chained}
 use Rattle.chain.proofs.Promises.{chain-determined, chain-exact, Complete, chain-complete}
 use Rattle.record.specs.Record.{word, coefficients, check-record}
 use Rattle.record.proofs.Answers.{coefficients-long, one-checked}
-use Rattle.listing.specs.Text.{fields, Put}
+use Rattle.listing.specs.Text.{fields}
 use Rattle.listing.specs.Listing.{blank, chain-numbers, Line, refused, chained, Lines, none, more, number-of, LineIn, LinesIn}
 use Rattle.listing.proofs.Places.{left-to-right, written-degrees}
 

@@ -13,6 +13,7 @@ use Rattle.algebra.specs.Number.{table}
 use Rattle.algebra.specs.Polynomial.{degree, terms, limit}
 use Rattle.refusal.specs.Refusal.{is-refused}
 use Rattle.refusal.proofs.Outcomes.{answered, a-refusal, refused-by}
+use Rattle.digits.specs.Digits.{Put}
 use Rattle.polynomial.specs.Moduli.{modulus}
 use Rattle.polynomial.proofs.Acceptance.{accepted-above, degree-fits}
 use Rattle.area.specs.Area.{most-parts, place, laid}
@@ -23,7 +24,7 @@ use Rattle.chain.proofs.Promises.{chain-complete}
 use Rattle.record.specs.declared.Checked.{Checked}
 use Rattle.record.specs.Record.{checked}
 use Rattle.record.proofs.Answers.{check-outcome, check-answered}
-use Rattle.listing.specs.Text.{most-line, fields, Put}
+use Rattle.listing.specs.Text.{most-line, fields}
 use Rattle.listing.specs.Listing.{blank, number-of, LineIn, AcceptedIn}
 use Rattle.listing.specs.Listing as of
 

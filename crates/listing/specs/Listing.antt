@@ -20,12 +20,13 @@ use Rattle.refusal.specs.Refusal.{number}
 use Rattle.refusal.specs.declared.Refusal.{Refusal}
 use Rattle.refusal.specs.declared.Outcome.{Outcome}
 use Rattle.refusal.specs.declared.Outcome.the-variants.{Answered, Refused}
+use Rattle.digits.specs.Digits.{Put}
 use Rattle.polynomial.specs.Moduli.{modulus}
 use Rattle.area.specs.Area.{area-words, place}
 use Rattle.chain.specs.declared.Chained.{Chained}
 use Rattle.chain.specs.Chaining.{ChainOf}
 use Rattle.record.specs.Record.{word, record-bytes, coefficients, check-record}
-use Rattle.listing.specs.Text.{most-line, fields, Put}
+use Rattle.listing.specs.Text.{most-line, fields}
 
 -- the area that the listing lends to a chain
 abbrev pub blank : List ℕ

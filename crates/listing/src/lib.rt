@@ -5,10 +5,11 @@ ghost use Prim.Native.Nat.{_+_, _*_, _<_, _≤_, _^_};
 ghost use lib.ListN.{length};
 ghost use Rattle.algebra.specs.Number.{table};
 ghost use Rattle.algebra.specs.Polynomial.{degree as degree-of};
+ghost use Rattle.digits.specs.Digits.{decimal, Put};
 ghost use Rattle.area.specs.Area.{most-parts, area-words, place};
 ghost use Rattle.record.specs.Record.{record-bytes};
 ghost use Rattle.listing.specs.Listing.{number-of, LineIn, AcceptedIn, most-records, most-lines, LinesIn, RecordEnd};
-ghost use Rattle.listing.specs.Text.{most-digits, most-field, before-degrees, most-line, decimal, spaced as spaced-of, fields, Put};
+ghost use Rattle.listing.specs.Text.{most-field, before-degrees, most-line, spaced as spaced-of, fields};
 use polynomial::Coefficients;
 use polynomial::TERMS;
 use refusal::Outcome;
@@ -28,28 +29,13 @@ pub const RECORDS: usize = 128;
 // The most bytes that their lines take.
 pub const LINES: usize = RECORDS * LINE;
 
-// n's decimal digits into out from index at on; answers the index after them.
-fn digits(n: u32, out: &mut [u8], at: usize) -> usize
-    requires { ⌜ at + most-digits ≤ length (now out) ⌝ }
-    ensures { λ r. ⌜ Put (now (out .entry)) at (decimal n) most-digits (now (out .exit)) r ⌝ }
-{
-    if n < 10 {
-        out[at] = b'0' + n as u8;
-        at + 1
-    } else {
-        let k = digits(n / 10, out, at);
-        out[k] = b'0' + (n % 10) as u8;
-        k + 1
-    }
-}
-
 // A space and n's digits.
 fn spaced(n: u32, out: &mut [u8], at: usize) -> usize
     requires { ⌜ at + most-field ≤ length (now out) ⌝ }
     ensures { λ r. ⌜ Put (now (out .entry)) at (spaced-of (n ∷ [])) most-field (now (out .exit)) r ⌝ }
 {
     out[at] = b' ';
-    digits(n, out, at + 1)
+    digits::digits(n, out, at + 1)
 }
 
 // The line of a refused record: its number and the refusal number.
@@ -57,7 +43,7 @@ fn refused_line(number: u32, refusal: u32, out: &mut [u8]) -> usize
     requires { ⌜ most-line ≤ length (now out) ⌝ }
     ensures { λ r. ⌜ Put (now (out .entry)) 0 (fields number (refusal ∷ [])) most-line (now (out .exit)) r ⌝ }
 {
-    let a = digits(number, out, 0);
+    let a = digits::digits(number, out, 0);
     let b = spaced(refusal, out, a);
     out[b] = b'\n';
     b + 1
@@ -101,7 +87,7 @@ fn first_numbers(number: u32, n: Numbers, out: &mut [u8]) -> usize
     ensures { λ r. ⌜ Put (now (out .entry)) 0 (decimal number ++ spaced-of (0 ∷ n .degree ∷ n .parts ∷ n .tries ∷ n .price ∷ []))
         (before-degrees * most-field) (now (out .exit)) r ⌝ }
 {
-    let a = digits(number, out, 0);
+    let a = digits::digits(number, out, 0);
     let b = two(0, n.degree, out, a);
     let c = spaced(n.parts as u32, out, b);
     two(n.tries, n.price, out, c)

@@ -6,9 +6,11 @@ use borrow.Author.Needs.{needs}
 use lib.ListN.{length-set}
 use Rattle.algebra.specs.Number.{table}
 use Rattle.algebra.specs.Polynomial.{degree}
+use Rattle.digits.specs.Digits.{most-digits}
+use Rattle.digits.proofs.Text.{put-append, put-most, put-byte}
 use Rattle.area.specs.Area.{most-parts, place}
-use Rattle.listing.specs.Text.{most-digits, most-field, before-degrees, most-line}
-use Rattle.listing.proofs.Text.{put-append, put-byte, put-most, line-fields}
+use Rattle.listing.specs.Text.{most-field, before-degrees, most-line}
+use Rattle.listing.proofs.Text.{line-fields}
 use Rattle.listing.proofs.chain_line.Statement.{statement}
 use Rattle.listing.proofs.chain_line.Tie as tie
 

@@ -6,8 +6,9 @@ use native.Mathlib.Omega.{arith}
 use borrow.Author.Needs.{needs}
 use Rattle.algebra.specs.Number.{table}
 use Rattle.algebra.specs.Polynomial.{degree, terms, limit}
+use Rattle.digits.specs.Digits.{most-digits, Put}
 use Rattle.area.specs.Area.{most-parts, area-words, place}
-use Rattle.listing.specs.Text.{most-digits, most-field, spaced, Put}
+use Rattle.listing.specs.Text.{most-field, spaced}
 use Rattle.listing.proofs.Text.{put-none, put-table}
 use Rattle.listing.proofs.Places.{place-degree}
 use Rattle.listing.proofs.degrees.Statement.{statement}

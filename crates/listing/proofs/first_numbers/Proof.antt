@@ -2,9 +2,11 @@ use mathlib.Core.List.{[], _∷_}
 use Prim.Native.Nat.{_+_, _*_}
 use native.Mathlib.Omega.{arith}
 use borrow.Author.Needs.{needs}
+use Rattle.digits.specs.Digits.{most-digits}
+use Rattle.digits.proofs.Text.{put-append, put-most}
 use Rattle.area.specs.Area.{most-parts}
-use Rattle.listing.specs.Text.{most-digits, most-field, before-degrees}
-use Rattle.listing.proofs.Text.{put-append, put-numbers, put-most}
+use Rattle.listing.specs.Text.{most-field, before-degrees}
+use Rattle.listing.proofs.Text.{put-numbers}
 use Rattle.listing.proofs.first_numbers.Statement.{statement}
 use Rattle.listing.proofs.first_numbers.Tie as tie
 

@@ -3,9 +3,10 @@ use native.Mathlib.Omega.{arith}
 use borrow.Author.Needs.{needs}
 use lib.ListN.{length}
 use Rattle.algebra.specs.Polynomial.{terms, limit}
+use Rattle.digits.specs.Digits.{most-digits}
 use Rattle.area.specs.Area.{most-parts}
 use Rattle.record.specs.Record.{record-bytes}
-use Rattle.listing.specs.Text.{most-digits, most-field, before-degrees, most-line}
+use Rattle.listing.specs.Text.{most-field, before-degrees, most-line}
 use Rattle.listing.specs.Listing.{most-records, most-lines}
 use Rattle.listing.proofs.Cutting.{Progress, begun, ended, turned}
 use Rattle.listing.proofs.lines.Statement.{statement}

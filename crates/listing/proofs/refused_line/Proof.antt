@@ -3,9 +3,10 @@ use Prim.Native.Nat.{_+_}
 use native.Mathlib.Omega.{arith}
 use borrow.Author.Needs.{needs}
 use lib.ListN.{length-set}
+use Rattle.digits.specs.Digits.{most-digits}
+use Rattle.digits.proofs.Text.{put-append, put-most, put-byte}
 use Rattle.area.specs.Area.{most-parts}
-use Rattle.listing.specs.Text.{most-digits, most-field, before-degrees, most-line, fields}
-use Rattle.listing.proofs.Text.{put-append, put-byte, put-most}
+use Rattle.listing.specs.Text.{most-field, before-degrees, most-line, fields}
 use Rattle.listing.proofs.refused_line.Statement.{statement}
 use Rattle.listing.proofs.refused_line.Tie as tie
 

@@ -1,6 +1,7 @@
 use mathlib.Core.List.{[], _∷_}
 use borrow.Author.Needs.{needs}
-use Rattle.listing.specs.Text.{most-digits, most-field}
+use Rattle.digits.specs.Digits.{most-digits}
+use Rattle.listing.specs.Text.{most-field}
 use Rattle.listing.proofs.Text.{put-numbers}
 use Rattle.listing.proofs.two.Statement.{statement}
 use Rattle.listing.proofs.two.Tie as tie

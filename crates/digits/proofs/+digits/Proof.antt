@@ -4,13 +4,13 @@ use borrow.Author.Needs.{needs}
 use borrow.Fn.Kinds.{In}
 use borrow.Fn.PlainCycle.{Measures, is, falls, and}
 use lib.ListN.{length-set}
-use Rattle.listing.specs.Text.{most-digits}
-use Rattle.listing.proofs.Text.{few-digits, put-one, put-more}
-use Rattle.listing.proofs.digits.Reads as digits
-use Rattle.listing.proofs.digits.Kinds as digits-kinds
-use Rattle.listing.proofs.+digits.Lts-digits as digits-lts
-use Rattle.listing.proofs.+digits.{statement}
-use Rattle.listing.proofs.+digits.Tie.{close}
+use Rattle.digits.specs.Digits.{most-digits}
+use Rattle.digits.proofs.Text.{few-digits, put-one, put-more}
+use Rattle.digits.proofs.digits.Reads as digits
+use Rattle.digits.proofs.digits.Kinds as digits-kinds
+use Rattle.digits.proofs.+digits.Lts-digits as digits-lts
+use Rattle.digits.proofs.+digits.{statement}
+use Rattle.digits.proofs.+digits.Tie.{close}
 
 abbrev μ-digits : Measures 1 digits-kinds.ps ℕ
 μ-digits κs a = a .0
