@@ -2,9 +2,9 @@
 --
 --   tens k                       10 ^ k
 --   small, large                 the digits of a number below 10, and of any other
---   length-decimal               there are at most so many
+--   length-decimal               a number has no more than most-digits
 --   few-digits                   the digits before the last are fewer
---   put-append                   one text and then another
+--   put-nothing, put-append      no text; one text and then another
 --   put-most                     a text is at most so long, or more
 --   put-byte, put-one, put-more  one byte; a number of one digit; the last digit after the others
 use mathlib.Core.Path.{_≡_, refl, sym, ap, _∙_}
@@ -85,6 +85,10 @@ few-digits n h l = omega (arith, length-decimal n, ap length (more-digits n h l)
 sets-append : (a : List ℕ) (l : List ℕ) (i : ℕ) (b : List ℕ) → sets l i (a ++ b) ≡ sets (sets l i a) (i + length a) b
 sets-append [] l i b = rw (add-zero i)
 sets-append (x ∷ a) l i b = sets-append a (set l i x) (suc i) b ∙ ap (λ (k : ℕ). sets (sets (set l i x) (suc i) a) k b) (omega (arith, suc-add i (length a)))
+
+-- no text
+pub put-nothing : (b : List ℕ) (at m : ℕ) → Put b at [] m b at
+put-nothing b at m = record { stored = refl; end = sym (add-zero at); within = omega arith }
 
 -- one text and then another
 pub put-append : {b : List ℕ} {at : ℕ} {t : List ℕ} {m : ℕ} {x : List ℕ} {r : ℕ} {u : List ℕ} {k : ℕ} {y : List ℕ} {q : ℕ}

@@ -7,13 +7,13 @@
 use mathlib.Core.Path.{_≡_, refl, sym, ap}
 use mathlib.Core.List.{List, [], _∷_, _++_, append-assoc, append-nil}
 use Prim.Native.Nat.{ℕ, zero, suc, _+_, _*_}
-use native.Mathlib.Nat.{add-zero, mul-suc}
+use native.Mathlib.Nat.{mul-suc}
 use native.Mathlib.Numerals.{add-one}
 use native.Mathlib.Omega.{arith}
 use lib.ListN.{set}
 use Rattle.algebra.specs.Number.{table}
 use Rattle.digits.specs.Digits.{most-digits, decimal, Put}
-use Rattle.digits.proofs.Text.{put-append, put-most, put-byte}
+use Rattle.digits.proofs.Text.{put-nothing, put-append, put-most, put-byte}
 use Rattle.listing.specs.Text.{space, newline, most-field, spaced, fields}
 
 spaced-append : (l k : List ℕ) → spaced (l ++ k) ≡ spaced l ++ spaced k
@@ -24,7 +24,7 @@ spaced-append (x ∷ l) k = rw (spaced-append l k) (ap (λ (t : List ℕ). space
 -- no numbers
 pub put-none : (b : List ℕ) (at m : ℕ) → Put b at (spaced []) m b at
 unfolding spaced
-put-none b at m = record { stored = refl; end = sym (add-zero at); within = omega arith }
+put-none b at m = put-nothing b at m
 
 -- one number
 pub put-number : {b y : List ℕ} {at q : ℕ} (n : ℕ) → Put (set b at space) (at + 1) (decimal n) most-digits y q → Put b at (spaced (n ∷ [])) most-field y q
