@@ -5,7 +5,8 @@
 --   degree-below                  the degree of a list that is not empty is below its length
 --   degree-above                  the coefficients above the degree are 0
 --   degree-top                    a coefficient that is not 0, with only zeros above, is that of the degree
-use mathlib.Core.Path.{_≡_, refl}
+--   degree-same                   lists with the same coefficients have the same degree, however long they are
+use mathlib.Core.Path.{_≡_, refl, sym, _∙_}
 use mathlib.Core.Logic.{⊎-elim}
 use mathlib.Core.List.{List}
 use Prim.Native.Nat.{ℕ, zero, suc, _-_, _≤_, _<_}
@@ -89,3 +90,14 @@ module _ (f : List ℕ) where
       over : Dec (degree f < n) → n ≤ degree f
       over (yes l) = absurd (t (degree-above n l))
       over (no l) = omega arith
+
+-- the coefficients tell the degree
+pub degree-same : (f g : List ℕ) → ((i : ℕ) → coef f i ≡ coef g i) → degree f ≡ degree g
+degree-same f g e = le-antisymm (half f g e) (half g f (λ i. sym (e i)))
+  where
+    half : (f g : List ℕ) → ((i : ℕ) → coef f i ≡ coef g i) → degree f ≤ degree g
+    half f g e = go (decLt (degree g) (degree f))
+      where
+        go : Dec (degree g < degree f) → degree f ≤ degree g
+        go (yes l) = absurd (at-degree f .leads (omega arith) (e (degree f) ∙ degree-above g (degree f) l))
+        go (no l) = omega arith

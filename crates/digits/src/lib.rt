@@ -3,6 +3,9 @@ ghost use Prim.Native.Nat.{_+_, _≤_};
 ghost use lib.ListN.{length};
 ghost use Rattle.digits.specs.Digits.{most-digits, decimal, Put};
 
+// The most digits that a number takes.
+pub const DIGITS: usize = 10;
+
 // n's decimal digits into out from index at on; answers the index after them.
 pub fn digits(n: u32, out: &mut [u8], at: usize) -> usize
     requires { ⌜ at + most-digits ≤ length (now out) ⌝ }

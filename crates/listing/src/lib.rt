@@ -15,7 +15,7 @@ use polynomial::TERMS;
 use refusal::Outcome;
 
 // The most bytes that a number takes with the space before it.
-const FIELD: usize = 11;
+const FIELD: usize = digits::DIGITS + 1;
 
 // How many numbers stand before the degrees.
 const BEFORE: usize = 6;

@@ -12,7 +12,7 @@ use Prim.Native.Nat.{ℕ, _+_}
 use Rattle.refusal.specs.declared.Concerns.{Concerns}
 use Rattle.refusal.specs.declared.Concerns.the-variants.{Neither, First, Second, Place}
 use Rattle.refusal.specs.declared.Reason.{Reason}
-use Rattle.refusal.specs.declared.Reason.the-variants.{Modulus, Coefficient, Degree, Leading, Factor, Fit, NoPair, Change, Short, Limit, Area, Sheet, Beyond}
+use Rattle.refusal.specs.declared.Reason.the-variants.{Modulus, Coefficient, Degree, Leading, Factor, Fit, NoPair, Change, Short, Limit, Area, Sheet, Spelling, Depth, Beyond}
 use Rattle.refusal.specs.declared.Outcome.{Outcome}
 use Rattle.refusal.specs.declared.Outcome.the-variants.{Answered, Refused}
 
@@ -30,6 +30,8 @@ number Short = 9
 number Limit = 10
 number Area = 11
 number Sheet = 12
+number Spelling = 13
+number Depth = 14
 number Beyond = 18
 
 -- which polynomial, as a number
@@ -53,6 +55,8 @@ power Short = 0
 power Limit = 0
 power Area = 0
 power Sheet = 0
+power Spelling = 0
+power Depth = 0
 power Beyond = 0
 
 -- the outcome that is this refusal

@@ -24,6 +24,8 @@ pub enum Reason {
     Limit,
     Area,
     Sheet,
+    Spelling,
+    Depth,
     Beyond,
 }
 
@@ -72,6 +74,8 @@ pub fn number(reason: Reason) -> u32
         Reason::Limit => 10,
         Reason::Area => 11,
         Reason::Sheet => 12,
+        Reason::Spelling => 13,
+        Reason::Depth => 14,
         Reason::Beyond => 18,
     }
 }
@@ -105,6 +109,8 @@ pub fn power(reason: Reason) -> u32
         Reason::Limit => 0,
         Reason::Area => 0,
         Reason::Sheet => 0,
+        Reason::Spelling => 0,
+        Reason::Depth => 0,
         Reason::Beyond => 0,
     }
 }

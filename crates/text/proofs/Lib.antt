@@ -1,0 +1,10 @@
+pub mod Spelling
+pub mod Reached
+pub mod Exact
+pub mod Counting
+pub mod Readers
+pub mod Judging
+pub mod Promises
+pub mod Cases
+pub mod Writing
+pub mod Putting

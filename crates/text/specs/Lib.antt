@@ -1,0 +1,7 @@
+pub mod Grammar
+pub mod Meaning
+pub mod Language
+pub mod Writing
+pub mod Answers
+pub mod States
+pub mod Reading
