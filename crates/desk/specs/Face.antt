@@ -10,6 +10,7 @@
 --   ChosenAs ..         what desk_nth_chain returns and writes
 --   WrittenAs ..        what desk_write_sheet returns and writes
 --   ReadAs ..           what desk_read_sheet returns and writes
+--   TextAs ..           what desk_write_text returns and writes
 --   place-of xs i       where part i stands in the area xs: its start and its length, 0 and 0 if it is empty
 use mathlib.Core.Path.{_≡_}
 use mathlib.Core.List.{List, [], _∷_}
@@ -30,6 +31,8 @@ use Rattle.area.specs.Area.{start, part-of}
 use Rattle.record.specs.Record.{checked}
 use Rattle.sheet.specs.declared.Contents.{Contents}
 use Rattle.sheet.specs.Answers.{ReadsSheet, WritesSheet}
+use Rattle.text.specs.declared.Written.{Written}
+use Rattle.text.specs.Answers.{WritesText}
 use Rattle.desk.specs.declared.Refused as face
 
 -- 01's numbers of an outcome
@@ -100,6 +103,13 @@ pub record ReadAs (b xs ys : List ℕ) (r : face.Refused) (modulus : ℕ) (f : L
   pub refused : r ≡ told (contents .outcome)
   pub modulus-is : modulus ≡ contents .modulus
   pub f-is : f ≡ contents .polynomial
+
+-- some answer of the writer of texts, in numbers; and the area afterwards
+pub record TextAs (m : ℕ) (f xs ys : List ℕ) (r : face.Refused) (length : ℕ) : Type 0 where
+  pub written : Written
+  pub is : WritesText m f xs ys written
+  pub refused : r ≡ told (written .outcome)
+  pub length-is : length ≡ written .length
 
 -- an empty part stands nowhere
 abbrev pub start-of : ℕ → ℕ → ℕ

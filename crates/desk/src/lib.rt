@@ -2,8 +2,9 @@
 ghost use mathlib.Core.Path.{_≡_};
 ghost use Rattle.polynomial.specs.Moduli.{modulus};
 ghost use Rattle.pair.specs.Pairing.{compose, LeftPartOf, Splits};
+ghost use Rattle.text.specs.Answers.{ReadsText};
 ghost use Rattle.change.specs.Changing.{made, ChangesPolynomial, ChangesPair, Combines, Undoing};
-ghost use Rattle.desk.specs.Face.{told as told-of, CheckedAs, AnswersAs, PartsAs, MadeAs, ChainedAs, NumberedAs, ChosenAs, place-of, WrittenAs, ReadAs};
+ghost use Rattle.desk.specs.Face.{told as told-of, CheckedAs, AnswersAs, PartsAs, MadeAs, ChainedAs, NumberedAs, ChosenAs, place-of, WrittenAs, ReadAs, TextAs};
 use change::Change;
 use polynomial::TERMS;
 use refusal::Outcome;
@@ -263,6 +264,34 @@ pub extern "C" fn desk_read_sheet(
     let p = x.polynomial;
     *modulus = x.modulus;
     *f = p;
+    let outcome = x.outcome;
+    told(outcome)
+}
+
+// The polynomial that a text means; zeros after a refusal.
+#[no_mangle]
+pub extern "C" fn desk_read_text(m: u32, text: &[u8], f: &mut [u32; TERMS]) -> Refused
+    ensures { λ r. ⌜ AnswersAs (ReadsText (modulus m) (now (text .entry))) r (now (f .exit)) ⌝ }
+{
+    let x = text::read(m, text);
+    let p = x.polynomial;
+    *f = p;
+    let outcome = x.outcome;
+    told(outcome)
+}
+
+// f as text, into an area: length is the number of bytes written, 0 after a refusal.
+#[no_mangle]
+pub extern "C" fn desk_write_text(
+    m: u32,
+    f: &[u32; TERMS],
+    area: &mut [u8],
+    length: &mut usize,
+) -> Refused
+    ensures { λ r. ⌜ TextAs (modulus m) (now (f .entry)) (now (area .entry)) (now (area .exit)) r (now (length .exit)) ⌝ }
+{
+    let x = text::write(m, *f, area);
+    *length = x.length;
     let outcome = x.outcome;
     told(outcome)
 }
