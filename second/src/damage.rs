@@ -60,6 +60,30 @@ pub fn several(lines: &[Refused], random: &mut Random) -> Vec<Refused> {
     }
 }
 
+/// How often an input is made anew when what it was to make due is not due.
+pub const TRIES: usize = 200;
+
+/// An input on which all of the lines are due, if one is met. One line or two are
+/// tried for again and again; more of them need not come true.
+pub fn with_due<I>(
+    lines: &[Refused],
+    due: impl Fn(&I) -> Vec<Refused>,
+    mut make: impl FnMut() -> I,
+) -> I {
+    let mut input = make();
+    if !(1..=2).contains(&lines.len()) {
+        return input;
+    }
+    for _ in 0..TRIES {
+        let due: Vec<Refused> = due(&input).into_iter().map(Refused::line).collect();
+        if lines.iter().all(|line| due.contains(line)) {
+            break;
+        }
+        input = make();
+    }
+    input
+}
+
 /// Makes those of the lines due that are about m and the polynomials.
 ///
 /// The coefficients that offend are set after the modulus they offend against,

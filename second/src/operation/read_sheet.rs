@@ -5,7 +5,7 @@ use super::chain::{filled, PARTS};
 use super::{Operation, Own, Worked};
 use crate::answer::{SheetRead, AREA_WORDS, SHEET_BYTES, TOP_PARTS};
 use crate::asked::Asked;
-use crate::damage::spoiled_modulus;
+use crate::damage::{spoiled_modulus, with_due};
 use crate::desk;
 use crate::inputs::{PRIME, PRIME_POWER, SEVERAL_PRIMES};
 use crate::modulus::Modulus;
@@ -127,7 +127,7 @@ impl Operation for ReadSheet {
         let Some(lines) = chains::wanted(ORDER, index, random) else {
             return scattered(random);
         };
-        chains::with_due(&lines, refusals_due, || by_lines(&lines, random))
+        with_due(&lines, refusals_due, || by_lines(&lines, random))
     }
 
     fn own(input: &Reading) -> Own<SheetRead> {

@@ -115,7 +115,7 @@ impl Operation for WriteSheet {
         let Some(lines) = chains::wanted(ORDER, index, random) else {
             return scattered(random);
         };
-        chains::with_due(&lines, refusals_due, || by_lines(&lines, random))
+        damage::with_due(&lines, refusals_due, || by_lines(&lines, random))
     }
 
     fn own(input: &Writing) -> Own<Written> {

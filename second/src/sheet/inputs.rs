@@ -33,30 +33,6 @@ pub fn wanted(order: &[Refused], index: u64, random: &mut Random) -> Option<Vec<
     }
 }
 
-/// How often an input is made anew when what it was to make due is not due.
-const TRIES: usize = 200;
-
-/// An input on which all of the lines are due. One line or two can be due at
-/// once, whichever they are; more of them need not come true.
-pub fn with_due<I>(
-    lines: &[Refused],
-    due: impl Fn(&I) -> Vec<Refused>,
-    mut make: impl FnMut() -> I,
-) -> I {
-    let mut input = make();
-    if lines.len() > 2 {
-        return input;
-    }
-    for _ in 0..TRIES {
-        let due: Vec<Refused> = due(&input).into_iter().map(Refused::line).collect();
-        if lines.iter().all(|line| due.contains(line)) {
-            break;
-        }
-        input = make();
-    }
-    input
-}
-
 /// Those of the lines that name this place, as `damage` knows them: about a
 /// polynomial, and No. 1 about none.
 pub fn about_place(lines: &[Refused], place: usize, polynomial: u32) -> Vec<Refused> {
@@ -89,7 +65,7 @@ pub fn other_places(lines: &[Refused], random: &mut Random) -> Used {
     if !named.contains(&true) && random.once_in(3) {
         return used;
     }
-    for _ in 0..TRIES {
+    for _ in 0..damage::TRIES {
         used = named.map(|named| named || random.once_in(2));
         let first = used.iter().take_while(|&&used| used).count();
         let all = used.iter().filter(|&&used| used).count();
