@@ -7,8 +7,9 @@ use crate::law::{
 };
 use crate::operation::{
     self, chain, change_pair, change_polynomial, check, combine, compose, count_chains,
-    every_chain, left_part, near_left_part, near_split, nth_chain, part, read_sheet, split,
-    tiny_chain, tiny_chains, tiny_left_part, tiny_split, undo, write_sheet,
+    every_chain, left_part, near_left_part, near_split, near_text, nth_chain, part, read_sheet,
+    read_text, split, tiny_chain, tiny_chains, tiny_left_part, tiny_split, tiny_text, undo,
+    write_sheet, write_text,
 };
 
 pub const ALL: &[Entry] = &[
@@ -33,6 +34,10 @@ pub const ALL: &[Entry] = &[
     operation::entry::<part::Part>(),
     operation::entry::<write_sheet::WriteSheet>(),
     operation::entry::<read_sheet::ReadSheet>(),
+    operation::entry::<read_text::ReadText>(),
+    operation::entry::<near_text::NearText>(),
+    operation::entry::<tiny_text::TinyText>(),
+    operation::entry::<write_text::WriteText>(),
     law::entry::<round_trip::RoundTrip>(),
     law::entry::<changed_split::ChangedSplit>(),
     law::entry::<changed_chain::ChangedChain>(),

@@ -2,6 +2,7 @@
 //! every word or different.
 
 pub mod chains;
+pub mod text;
 
 use crate::change::{Change, IDENTITY};
 use crate::polynomial::{Polynomial, PLACES};

@@ -6,6 +6,7 @@
 //! memory that the desk had no right to write.
 
 use crate::answer::chains::{Counted, Jth};
+use crate::answer::text::WrittenText;
 use crate::answer::{Chained, Changed, Checked, One, Place, SheetRead, Two, Written};
 use crate::change::Change;
 use crate::lent::{garbage, Given, Lent, LentArea};
@@ -93,6 +94,14 @@ extern "C" {
         area_count: usize,
         modulus: *mut u32,
         f: *mut Coefficients,
+    ) -> Refused;
+    fn desk_read_text(m: u32, text: *const u8, text_count: usize, f: *mut Coefficients) -> Refused;
+    fn desk_write_text(
+        m: u32,
+        f: *const Coefficients,
+        area: *mut u8,
+        area_count: usize,
+        length: *mut usize,
     ) -> Refused;
 }
 
@@ -423,5 +432,48 @@ pub fn read_sheet(sheet: &[u8], area: &[u32], random: &mut Random) -> Result<She
         modulus: modulus.give_back("the modulus")?,
         f: Polynomial(f.give_back("the composed f")?),
         area: area.give_back("the chain area")?,
+    })
+}
+
+/// The polynomial that a text means.
+pub fn read_text(m: Modulus, text: &[u8], random: &mut Random) -> Result<One, String> {
+    let mut text = Given::bytes(text, random);
+    let mut f = lent_words(random);
+    // SAFETY: as said above of all calls.
+    let refused = unsafe { desk_read_text(m.word(), text.pointer(), text.count(), f.pointer()) };
+    text.give_back("the text")?;
+    let polynomial = Polynomial(f.give_back("the polynomial f")?);
+    Ok(One {
+        refused,
+        polynomial,
+    })
+}
+
+/// f as text, in a copy of `area` as it stands.
+pub fn write_text(
+    m: Modulus,
+    f: &Polynomial,
+    area: &[u8],
+    random: &mut Random,
+) -> Result<WrittenText, String> {
+    let mut f = GivenPolynomial::new(f, random);
+    let mut area = LentArea::bytes(area, random);
+    let mut length = lent_counts::<1>(random);
+    // SAFETY: as said above of all calls.
+    let refused = unsafe {
+        desk_write_text(
+            m.word(),
+            f.pointer(),
+            area.pointer(),
+            area.count(),
+            length.pointer().cast(),
+        )
+    };
+    f.give_back("the given f")?;
+    let [length] = length.give_back("the length")?;
+    Ok(WrittenText {
+        refused,
+        length,
+        area: area.give_back("the area")?,
     })
 }

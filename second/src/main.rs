@@ -64,9 +64,11 @@ mod shape;
 mod sheet;
 mod sheets;
 mod tally;
+mod text;
 mod tiny;
 mod worked;
 mod worked_sheets;
+mod worked_texts;
 
 use all::ALL;
 use entry::{usual, Entry, Run};
