@@ -3,7 +3,8 @@
 use crate::entry::Entry;
 use crate::law::{
     self, asked_twice, changed_chain, changed_chains, changed_split, every_composed, first_chain,
-    read_composed, read_written, round_trip, undone_chains, written_read,
+    read_composed, read_written, round_trip, text_composed, text_in_brackets, text_read_back,
+    text_written_again, undone_chains, written_read,
 };
 use crate::operation::{
     self, chain, change_pair, change_polynomial, check, combine, compose, count_chains,
@@ -49,4 +50,8 @@ pub const ALL: &[Entry] = &[
     law::entry::<written_read::WrittenRead>(),
     law::entry::<read_written::ReadWritten>(),
     law::entry::<read_composed::ReadComposed>(),
+    law::entry::<text_read_back::TextReadBack>(),
+    law::entry::<text_written_again::TextWrittenAgain>(),
+    law::entry::<text_in_brackets::TextInBrackets>(),
+    law::entry::<text_composed::TextComposed>(),
 ];

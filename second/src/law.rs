@@ -11,6 +11,10 @@ pub mod first_chain;
 pub mod read_composed;
 pub mod read_written;
 pub mod round_trip;
+pub mod text_composed;
+pub mod text_in_brackets;
+pub mod text_read_back;
+pub mod text_written_again;
 pub mod undone_chains;
 pub mod written_read;
 
