@@ -9,6 +9,7 @@ use crate::operation::write_text::WritingText;
 use crate::operation::Worked;
 use crate::polynomial::Polynomial;
 use crate::refused::{Refused, FIRST};
+use crate::shape::plain_power;
 use crate::text::Typed;
 use crate::worked::{self, Coefficients};
 
@@ -69,12 +70,10 @@ const READ: &[(u32, &str, Coefficients)] = &[
 ];
 
 const REFUSED: &[(u32, &str, Refused)] = &[
-    (1, "", Refused::plain(1)),
     (1, "x^2", Refused::plain(1)),
     (2_147_483_648, "(((((((((", Refused::plain(1)),
     (u32::MAX, "x^126*x", Refused::plain(1)),
     // Not in the language, by the readings.
-    (101, "", Refused::plain(13)),
     (101, "x^2^2", Refused::plain(13)),
     (101, "+x^2", Refused::plain(13)),
     (101, "(+x^2)", Refused::plain(13)),
@@ -87,8 +86,6 @@ const REFUSED: &[(u32, &str, Refused)] = &[
     (101, "x^2+()", Refused::plain(13)),
     (101, "X^2", Refused::plain(13)),
     (101, "x^2 ", Refused::plain(13)),
-    (101, "x^2\n", Refused::plain(13)),
-    (101, "x^2\0", Refused::plain(13)),
     (101, "x**2", Refused::plain(13)),
     (101, "x^(2)", Refused::plain(13)),
     (101, "x^-2", Refused::plain(13)),
@@ -144,7 +141,7 @@ pub fn read() -> Vec<Worked<Typed, One>> {
         answer,
     };
     let square = || One::answered(Polynomial::of(&[0, 0, 1]));
-    let highest = One::answered(crate::shape::plain_power(126));
+    let highest = One::answered(plain_power(126));
     let misspelt = || One::refused_with(Refused::plain(13));
     let zeros = |count| "+0".repeat(count);
     let mut cases = vec![
@@ -163,6 +160,15 @@ pub fn read() -> Vec<Worked<Typed, One>> {
             "x^002".to_string() + &zeros(4_094),
             misspelt(),
         ),
+        case("no bytes", 101, String::new(), misspelt()),
+        case(
+            "no bytes, m 1",
+            1,
+            String::new(),
+            One::refused_with(Refused::plain(1)),
+        ),
+        case("a newline", 101, "x^2\n".to_string(), misspelt()),
+        case("a byte 0", 101, "x^2\0".to_string(), misspelt()),
         case("8193 brackets", 101, "(".repeat(8_193), misspelt()),
     ];
     cases.extend(READ.iter().map(|&(m, text, f)| {

@@ -12,7 +12,7 @@ use crate::random::Random;
 use crate::refused::{Refused, FIRST};
 use crate::tally::Wanted;
 use crate::text::damage::{Edit, LETTERS};
-use crate::text::{Typed, MISSPELT, TOO_DEEP, TOO_HIGH};
+use crate::text::{Typed, MISSPELT};
 use crate::tiny::texts;
 use std::sync::OnceLock;
 
@@ -118,13 +118,7 @@ impl Operation for NearText {
     const NAME: &'static str = "near_text";
     const WANTED: Wanted = Wanted {
         order: &[],
-        alone: &[
-            MISSPELT,
-            TOO_DEEP,
-            TOO_HIGH,
-            Refused::about(3, FIRST),
-            Refused::about(4, FIRST),
-        ],
+        alone: &[MISSPELT, Refused::about(3, FIRST), Refused::about(4, FIRST)],
         apart: &[],
         kinds: &[],
         at_2_32: Some(&[]),

@@ -61,7 +61,7 @@ impl Operation for ReadText {
     };
 
     fn usual() -> u64 {
-        50_000
+        40_000
     }
 
     fn worked() -> Vec<Worked<Typed, One>> {

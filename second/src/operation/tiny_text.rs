@@ -19,8 +19,8 @@ pub struct TinyText;
 const LETTERS: &[u8] = b"0126x^*+-()";
 const AT_EVERY_MODULUS: usize = 4;
 
-/// And all of 6 of these letters at some.
-const FEW_LETTERS: &[u8] = b"2x^*-()";
+/// And all of 6 of these letters, in a frame.
+const FEW_LETTERS: &[u8] = b"2x^*-";
 
 const MODULI: [Modulus; 4] = [
     Modulus::of_word(2),
@@ -35,27 +35,41 @@ struct Block {
     letters: &'static [u8],
     length: usize,
     m: Option<Modulus>,
+    /// Whether x^99 is added, which takes 3 and 4 away: what such a short text
+    /// means is seen then.
+    framed: bool,
 }
 
 impl Block {
-    fn counted(letters: &'static [u8], length: usize, m: Option<Modulus>) -> (Block, u64) {
-        let count = (letters.len() as u64).pow(length as u32);
-        (Block { letters, length, m }, count)
+    fn counted(self) -> (Block, u64) {
+        let letters = self.letters.len() as u64;
+        (self, letters.pow(self.length as u32))
     }
 }
 
 fn list() -> &'static List<Block> {
     static LIST: OnceLock<List<Block>> = OnceLock::new();
+    let alone = |length, m| Block {
+        letters: LETTERS,
+        length,
+        m,
+        framed: false,
+    };
+    let framed = |letters, length| Block {
+        letters,
+        framed: true,
+        ..alone(length, None)
+    };
     LIST.get_or_init(|| {
-        let every = (0..=AT_EVERY_MODULUS).flat_map(|length| {
-            let at = move |m| Block::counted(LETTERS, length, Some(m));
-            MODULI.into_iter().map(at)
+        let lengths = 0..=AT_EVERY_MODULUS;
+        let every = lengths.clone().flat_map(|length| {
+            let at = |m| alone(length, Some(m));
+            MODULI.map(at)
         });
-        let some = [
-            Block::counted(LETTERS, AT_EVERY_MODULUS + 1, None),
-            Block::counted(FEW_LETTERS, AT_EVERY_MODULUS + 2, None),
-        ];
-        List::of(every.chain(some))
+        let some = [alone(AT_EVERY_MODULUS + 1, None), framed(FEW_LETTERS, 6)];
+        let blocks = every.chain(some);
+        let blocks = blocks.chain(lengths.map(|length| framed(LETTERS, length)));
+        List::of(blocks.map(Block::counted))
     })
 }
 
@@ -66,10 +80,10 @@ impl Operation for TinyText {
     const NAME: &'static str = "tiny_text";
     const WANTED: Wanted = Wanted {
         order: &[],
-        alone: &[MISSPELT, Refused::about(3, FIRST), Refused::about(4, FIRST)],
+        alone: &[MISSPELT, Refused::about(3, FIRST)],
         apart: &[],
         kinds: &[],
-        at_2_32: Some(&[]),
+        at_2_32: None,
     };
 
     fn usual() -> u64 {
@@ -87,10 +101,14 @@ impl Operation for TinyText {
 
     fn input(index: u64, random: &mut Random) -> Typed {
         let (block, mut number) = list().at(index);
-        let Block { letters, length, m } = block;
-        let m = m.unwrap_or_else(|| random.pick(&MODULI));
+        let m = block.m.unwrap_or_else(|| random.pick(&MODULI));
+        let letters = block.letters;
         let letter = |_| letters[choose(&mut number, letters.len() as u64) as usize];
-        Typed::new(m, Vec::from_iter((0..length).map(letter)))
+        let text = Vec::from_iter((0..block.length).map(letter));
+        match block.framed {
+            true => Typed::new(m, [b"x^99+(", &text[..], b")"].concat()),
+            false => Typed::new(m, text),
+        }
     }
 
     fn own(typed: &Typed) -> Own<One> {
@@ -99,10 +117,6 @@ impl Operation for TinyText {
 
     fn desk(typed: &Typed, random: &mut Random) -> Result<One, String> {
         desk::read_text(typed.m, &typed.text, random)
-    }
-
-    fn at_2_32(typed: &Typed) -> bool {
-        typed.m == WHOLE_WORDS
     }
 
     fn show(typed: &Typed) -> String {

@@ -11,7 +11,7 @@ use crate::random::Random;
 #[derive(Clone, Copy)]
 pub struct Room {
     pub m: Modulus,
-    /// No sum, product or power of it is higher.
+    /// No sum, product or power of it is higher, but in a bracket to the power 0.
     pub high: usize,
     /// No more brackets, one in another.
     pub open: usize,
@@ -141,7 +141,7 @@ fn bracket(room: Room, random: &mut Random) -> String {
 
 // Sums that begin with x^n, whatever is added.
 
-/// Of degree n, 1 or more, and monic; no power on the way is higher.
+/// Of degree n, 1 or more, and monic.
 pub fn monic(n: usize, room: Room, random: &mut Random) -> String {
     let room = room.up_to(n);
     let high = match random.below(8) {

@@ -53,7 +53,7 @@ pub fn of_read(typed: &Typed, f: &Polynomial) -> Vec<&'static str> {
     met(MINUS_FIRST, text.starts_with(b"-"));
     met(MINUS_INSIDE, has(b"(-"));
     met(BRACKET_POWER_0, has(b")^0+") || has(b")^0-"));
-    met(EIGHT_OPEN, most_open(text) == MOST_OPEN);
+    met(EIGHT_OPEN, most_at_once(text) == MOST_OPEN);
     met(NEVER_NINE, opened > MOST_OPEN);
     met(LONGEST, text.len() == MOST_BYTES);
     met(DEGREE_126, f.degree() == Some(TOP_DEGREE));
@@ -76,7 +76,7 @@ fn of_numbers(text: &[u8], m: Modulus) -> BTreeSet<&'static str> {
         met(ZEROS, digits.len() > 1 && digits[0] == b'0');
         met(POWER_TEN_DIGITS, is_power && digits.len() == MOST_DIGITS);
         met(POWER_0, is_power && number == 0);
-        met(POWER_126, is_power && number == 126);
+        met(POWER_126, is_power && number == TOP_DEGREE as u64);
         met(TEN_DIGITS, !is_power && digits.len() == MOST_DIGITS);
         met(NOT_BELOW_M, !is_power && number >= m.number());
     }
@@ -87,7 +87,9 @@ fn value(digits: &[u8]) -> Option<u64> {
     std::str::from_utf8(digits).ok()?.parse().ok()
 }
 
-fn most_open(text: &[u8]) -> usize {
+/// The most brackets that are open at once; those that close none count for
+/// nothing.
+pub fn most_at_once(text: &[u8]) -> usize {
     let mut open: usize = 0;
     let mut most = 0;
     for byte in text {
@@ -141,21 +143,23 @@ pub const FAULTS: [&str; 17] = [
     THEN_MISSPELT,
 ];
 
+const ONE_TOO_MANY: usize = MOST_BYTES + 1;
+
 /// Of any text; nothing if it is in the language.
 pub fn of_fault(text: &[u8]) -> Vec<&'static str> {
     let Some(Fault { place, refused }) = first_fault(text) else {
         return Vec::new();
     };
-    let behind = &text[place.min(text.len())..];
+    let behind = &text[place..];
     if refused != MISSPELT {
         let misspelt = behind.iter().any(|byte| !LETTERS.contains(byte));
         return Vec::from_iter(misspelt.then_some(THEN_MISSPELT));
     }
-    let deep = most_open(behind) > MOST_OPEN && text.len() <= MOST_BYTES;
+    let deep = most_at_once(behind) > MOST_OPEN && text.len() <= MOST_BYTES;
     let kind = match text.len() {
         0 => Some(NO_BYTES),
-        8_193 => Some(TOO_LONG),
-        ..=MOST_BYTES => of_place(text, place),
+        1..=MOST_BYTES => of_place(text, place),
+        ONE_TOO_MANY => Some(TOO_LONG),
         _ => None,
     };
     kind.into_iter().chain(deep.then_some(THEN_DEEP)).collect()
@@ -167,7 +171,7 @@ fn of_place(text: &[u8], place: usize) -> Option<&'static str> {
     let digits = before.iter().rev().take_while(|byte| byte.is_ascii_digit());
     let digits = digits.count();
     let in_power = digits > 0 && before[..place - digits].ends_with(b"^");
-    let open = most_open(before) == MOST_OPEN && !before.contains(&b')');
+    let open = most_at_once(before) == MOST_OPEN && !before.contains(&b')');
     let last = before.last();
     let Some(byte) = text.get(place) else {
         let whole = matches!(last, Some(b'0'..=b'9' | b'x' | b')'));

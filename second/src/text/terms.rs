@@ -45,7 +45,8 @@ impl Terms {
                 Ordering::Equal => {
                     let both = add(left.1, right.1, m);
                     sum.extend((both != 0).then_some((left.0, both)));
-                    (a.next(), b.next());
+                    a.next();
+                    b.next();
                 }
             }
         }

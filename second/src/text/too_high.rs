@@ -14,11 +14,12 @@ const ABOVE: usize = TOP_DEGREE + 1;
 /// Something in it is above x^126, whatever m is.
 pub fn too_high(m: Modulus, random: &mut Random) -> String {
     let high = above(m, random);
-    match random.below(6) {
+    match random.below(8) {
         0 => format!("{high}*0"),
-        1 => format!("{high}-{high}"),
-        2 => nested(1, &high) + "^0",
-        3 => format!("({high}-{high})*x"),
+        1 => format!("0*({high})"),
+        2 => format!("{high}-{high}"),
+        3 => nested(1, &high) + "^0",
+        4 => format!("({high}-{high})*x"),
         _ => high,
     }
 }
@@ -86,6 +87,6 @@ fn factor(m: Modulus, random: &mut Random) -> u32 {
 
 /// Moduli that have such numbers.
 pub fn modulus(random: &mut Random) -> Modulus {
-    let words = [0, 0, 4, 8, 9, 16, 25, 27, 36, 64, 65_536, 1 << 30];
+    let words = [0, 0, 0, 0, 4, 8, 9, 16, 25, 27, 64, 65_536, 1 << 30];
     Modulus::of_word(random.pick(&words))
 }

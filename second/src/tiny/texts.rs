@@ -9,9 +9,10 @@ use crate::polynomial::{Polynomial, TOP_DEGREE};
 use crate::refused::{Refused, FIRST};
 use crate::residue::{add, reduced, subtract};
 use crate::series::product;
+use crate::text::kinds::most_at_once;
 use crate::text::{Typed, MISSPELT, MOST_DIGITS, MOST_OPEN, TOO_DEEP, TOO_HIGH};
 
-/// The answer to the reader, for a text of 1 byte or more and not many.
+/// The answer to the reader, for a text of few bytes or none.
 pub fn read(typed: &Typed) -> One {
     let Typed { m, text } = typed;
     if !m.taken() {
@@ -129,7 +130,7 @@ impl Cuts<'_> {
     /// Whether the first bytes can begin a text with no more brackets open than
     /// that.
     fn begins(&self, to: usize, most_open: usize) -> bool {
-        most_brackets(&self.text[..to]) <= most_open && self.begins_sum(0, to)
+        most_at_once(&self.text[..to]) <= most_open && self.begins_sum(0, to)
     }
 
     fn begins_sum(&self, from: usize, to: usize) -> bool {
@@ -243,13 +244,4 @@ fn is_power(bytes: &[u8]) -> bool {
 fn number(digits: &[u8]) -> u128 {
     let digits = std::str::from_utf8(digits).expect("digits");
     digits.parse().expect("not many digits")
-}
-
-/// The most brackets that are open at once.
-fn most_brackets(bytes: &[u8]) -> usize {
-    let opened = |to: usize| {
-        let count = |bracket| bytes[..to].iter().filter(|&&byte| byte == bracket).count();
-        count(b'(').saturating_sub(count(b')'))
-    };
-    (0..=bytes.len()).map(opened).max().unwrap_or(0)
 }
