@@ -136,38 +136,31 @@ pub fn long(m: Modulus, random: &mut Random) -> String {
     }
 }
 
-/// x^2 and then 1 or 01 as factors.
+/// x^2 times 1, again and again.
 fn long_product(length: usize) -> String {
-    let first = ["x^2", "x^02"][length % 2];
-    let padding = "*001".repeat((length - first.len()) / 4);
-    let text = format!("{first}{padding}");
-    let rest = length - text.len();
-    format!("{text}{}", ["", "", "*1", "*01"][rest])
+    let first = if length.is_multiple_of(2) {
+        "x^02"
+    } else {
+        "x^2"
+    };
+    let times = (length - first.len()) / 2;
+    format!("{first}{}", "*1".repeat(times))
 }
 
 /// Pieces that change nothing, up to that length, if there is room for them.
 fn padded(mut text: String, length: usize, random: &mut Random) -> String {
-    let pieces = [
-        "+0",
-        "-0*x",
-        "+0^126",
-        "*1",
-        "*(1)^3",
-        "-(0*x^126)",
-        "+((0))",
-    ];
+    let pieces = ["+0", "-0*x", "-0^2", "*1", "*(1)^1", "-(0*x)", "+((0))"];
     while text.len() + 30 < length {
         text += random.pick(&pieces);
     }
     while text.len() + 2 <= length {
         // No single byte may be left.
-        let most = (length - text.len()).min(1 + MOST_DIGITS);
-        let taken = if text.len() + most + 1 == length {
-            most - 1
-        } else {
-            most
+        let left = length - text.len();
+        let digits = match left - 1 {
+            digits @ ..=MOST_DIGITS => digits,
+            _ => MOST_DIGITS / 2,
         };
-        text = added(&text, &"0".repeat(taken - 1));
+        text = added(&text, &"0".repeat(digits));
     }
     text
 }

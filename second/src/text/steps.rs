@@ -54,8 +54,10 @@ impl Order {
         let mut order = Order::default();
         let mut rest = bytes;
         let mut sum_begins = true;
-        while let Some((&byte, behind)) = rest.split_first() {
-            rest = behind;
+        while let Some(&byte) = rest.first() {
+            if !byte.is_ascii_digit() {
+                rest = &rest[1..];
+            }
             match byte {
                 b'(' => order.waiting.push((Binds::Bracket, None)),
                 b')' => {
@@ -71,10 +73,7 @@ impl Order {
                     order.steps.extend(power.map(|p| Step::Power(p as usize)));
                 }
                 b'x' => order.steps.push(Step::X),
-                _ => {
-                    rest = &bytes[bytes.len() - behind.len() - 1..];
-                    order.steps.extend(digits(&mut rest).map(Step::Number));
-                }
+                _ => order.steps.extend(digits(&mut rest).map(Step::Number)),
             }
             sum_begins = byte == b'(';
         }
