@@ -14,6 +14,8 @@
 --   face-part                desk_part
 --   face-write-sheet         desk_write_sheet
 --   face-read-sheet          desk_read_sheet
+--   face-read-text           desk_read_text
+--   face-write-text          desk_write_text
 -- They follow from the operations' own laws:
 --   answer-face-unique, parts-face-unique, made-face-unique     where an operation's contract determines its answer, so does that of its face
 --   place-empty, place-full                                     where a part stands
@@ -38,7 +40,10 @@ use Rattle.chains.specs.declared.Chosen.{Chosen}
 use Rattle.chains.proofs.Promises.{number-determined, nth-determined}
 use Rattle.sheet.specs.declared.Contents.{Contents}
 use Rattle.sheet.proofs.Promises.{write-determined, read-determined}
-use Rattle.desk.specs.Face.{told, CheckedAs, AnswersAs, PartsAs, MadeAs, ChainedAs, NumberedAs, ChosenAs, WrittenAs, ReadAs, start-of, place-of}
+use Rattle.text.specs.declared.Written.{Written}
+use Rattle.text.specs.Answers.{ReadsText}
+use Rattle.text.proofs.Promises as text-law
+use Rattle.desk.specs.Face.{told, CheckedAs, AnswersAs, PartsAs, MadeAs, ChainedAs, NumberedAs, ChosenAs, WrittenAs, ReadAs, TextAs, start-of, place-of}
 use Rattle.desk.specs.declared.Refused.{Refused}
 
 -- where an operation's contract determines its answer, so does that of its face
@@ -137,6 +142,15 @@ face-read-sheet x y =
       x .f-is ∙ ap (λ (a : Contents). a .polynomial) e ∙ sym (y .f-is),
       area,
     )
+
+pub face-read-text : {m : ℕ} {w f f′ : List ℕ} {r r′ : Refused} → AnswersAs (ReadsText m w) r f → AnswersAs (ReadsText m w) r′ f′ → (r ≡ r′) × (f ≡ f′)
+face-read-text = answer-face-unique (λ x y. text-law.read-determined)
+
+-- with every byte of the area
+pub face-write-text : {m : ℕ} {f xs ys zs : List ℕ} {r r′ : Refused} {n n′ : ℕ} → TextAs m f xs ys r n → TextAs m f xs zs r′ n′ → (r ≡ r′) × (n ≡ n′) × (ys ≡ zs)
+face-write-text x y =
+    let (e, area) = text-law.write-determined (x .is) (y .is) in
+    (x .refused ∙ ap (λ (a : Written). told (a .outcome)) e ∙ sym (y .refused), x .length-is ∙ ap (λ (a : Written). a .length) e ∙ sym (y .length-is), area)
 
 -- the place of an empty part, and of any other
 pub place-empty : (xs : List ℕ) (i : ℕ) → length (part-of xs i) ≡ 0 → 0 ∷ 0 ∷ [] ≡ place-of xs i

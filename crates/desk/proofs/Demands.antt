@@ -4,7 +4,7 @@
 -- check shows of every function; that the contracts determine the answer and each word of lent memory is said here.
 --   record-answer, compose-answer, left-part-answer, split-answer, change-polynomial-answer, change-pair-answer,
 --   combine-answer, undo-answer, chain-answer, count-chains-answer, nth-chain-answer, part-answer, write-sheet-answer,
---   read-sheet-answer
+--   read-sheet-answer, read-text-answer, write-text-answer
 -- Demand 2: the answers are those of Kozen and Landau.
 --   split-exact         where r and s fit and r has no factor in common with m: the pair with h(0) = 0, left and right, exactly if some
 --                       monic g and h of those degrees compose to f; else, and exactly if none do, No. 7 with zeros
@@ -25,12 +25,20 @@
 --   chain-read-back     the same for what change_polynomial answers, over the parts that the two areas hand out
 --   count-chains-carried, nth-chain-carried     and for the number of complete chains and the j-th of them
 --   carried-unique      carrying a change through the parts gives one result
+-- Typed polynomials (request No. 6), of the reader and the writer of texts.
+--   text-language       13 or 14 exactly if the text is not in the language, or not of 1 to 8,192 bytes
+--   text-one-meaning    a text is the spelling of one tree only
+--   text-meaning        what is read passes 1 to 4, and is the meaning of that tree modulo m, with nothing above the limit on the way
+--   text-first-fault    a text begins one of the language, or has a first fault from the left, said by the language alone
+--   text-fault-one      and that at one place only
+--   text-ninth          14 exactly if the first fault is a ninth bracket where one may open
+--   text-read-back      what the writer has written, read, answers the polynomial
 use mathlib.Core.Path.{_≡_, sym, _∙_}
-use mathlib.Core.Logic.{_↔_}
+use mathlib.Core.Logic.{_⊎_, _↔_}
 use mathlib.Core.List.{List}
 use Prim.Native.Nat.{ℕ, _*_, _≤_, _<_}
 use native.Mathlib.Omega.{arith}
-use lib.ListN.{length}
+use lib.ListN.{length, take}
 use Rattle.algebra.specs.Number.{Coprime}
 use Rattle.algebra.specs.Polynomial.{degree, terms, limit, Reduced}
 use Rattle.algebra.specs.Pair.{Normal}
@@ -42,9 +50,10 @@ use Rattle.algebra.proofs.Chains as algebra-law
 use Rattle.algebra.proofs.Lists.{earlier-not, earlier-trans}
 use Rattle.refusal.specs.Refusal.{refusal}
 use Rattle.refusal.specs.declared.Concerns.the-variants.{Neither}
-use Rattle.refusal.specs.declared.Reason.the-variants.{Beyond}
+use Rattle.refusal.specs.declared.Reason.the-variants.{Depth, Beyond}
 use Rattle.refusal.specs.declared.Outcome.{Outcome}
 use Rattle.refusal.specs.declared.Outcome.the-variants.{Answered}
+use Rattle.polynomial.specs.Moduli.{check-modulus}
 use Rattle.polynomial.specs.Checks.{check-one, Accepted}
 use Rattle.polynomial.specs.declared.Answer.{Answer}
 use Rattle.polynomial.specs.declared.Parts.{Parts}
@@ -73,6 +82,16 @@ use Rattle.chains.proofs.Promises.{NthParts, Appears, NthCarried, without-tries
 use Rattle.sheet.specs.declared.Contents.{Contents}
 use Rattle.sheet.specs.Answers.{ReadsSheet, WritesSheet}
 use Rattle.sheet.proofs.Promises as sheet-law
+use Rattle.text.specs.declared.Written.{Written}
+use Rattle.text.specs.Grammar.{Sum, spell, Fits, most-deep}
+use Rattle.text.specs.Language.{Start, FaultAt, Ninth}
+use Rattle.text.specs.Answers.{Sized, ReadsText, WritesText}
+use Rattle.text.proofs.Spelling as spelling-law
+use Rattle.text.proofs.Exact as text-fault
+use Rattle.text.proofs.Exact.{FirstFault}
+use Rattle.text.proofs.Promises as text-law
+use Rattle.text.proofs.Promises.{Language, Means}
+use Rattle.text.proofs.Writing as writing-law
 use Rattle.desk.proofs.SplitChanged as split-law
 use Rattle.desk.proofs.SplitChanged.{altered, SplitCarried}
 use Rattle.desk.proofs.ChainChanged as read-law
@@ -123,6 +142,13 @@ write-sheet-answer = sheet-law.write-determined
 
 pub read-sheet-answer : {b xs ys zs : List ℕ} {x y : Contents} → ReadsSheet b xs ys x → ReadsSheet b xs zs y → (x ≡ y) × (ys ≡ zs)
 read-sheet-answer = sheet-law.read-determined
+
+pub read-text-answer : {m : ℕ} {w : List ℕ} {x y : Answer} → ReadsText m w x → ReadsText m w y → x ≡ y
+read-text-answer = text-law.read-determined
+
+-- with every byte of the area
+pub write-text-answer : {m : ℕ} {f xs ys zs : List ℕ} {x y : Written} → WritesText m f xs ys x → WritesText m f xs zs y → (x ≡ y) × (ys ≡ zs)
+write-text-answer = text-law.write-determined
 
 -- Demand 2
 
@@ -202,3 +228,27 @@ nth-chain-carried long k o = let z = altered long k o in chains-law.nth-changed 
 -- so that "the change carried through the parts" is one list of parts
 pub carried-unique : {m a b : ℕ} {parts x y : List (List ℕ)} → 2 ≤ m → Coprime a m → Carried m a b parts x → Carried m a b parts y → x ≡ y
 carried-unique {m} two unit = algebra-law.carried-unique two (coprime-invertible m (omega arith) unit)
+
+-- Typed polynomials
+
+pub text-language : {m : ℕ} {w : List ℕ} {r : Answer} → check-modulus m ≡ Answered → ReadsText m w r → Language w r
+text-language = text-law.read-language
+
+pub text-one-meaning : (s t : Sum) → Fits s most-deep 0 → Fits t most-deep 0 → spell s ≡ spell t → s ≡ t
+text-one-meaning = spelling-law.one-meaning most-deep
+
+pub text-meaning : {m : ℕ} {w : List ℕ} {r : Answer} → ReadsText m w r → r .outcome ≡ Answered → Means m w (r .polynomial)
+text-meaning = text-law.read-accepted
+
+pub text-first-fault : (w : List ℕ) → Start most-deep w ⊎ FirstFault w
+text-first-fault = text-fault.fault-or-start
+
+pub text-fault-one : {w b c : List ℕ} {x y : ℕ} → FaultAt w b x → FaultAt w c y → (b ≡ c) × (x ≡ y)
+text-fault-one = text-law.fault-one
+
+pub text-ninth : {m : ℕ} {w : List ℕ} {r : Answer} → check-modulus m ≡ Answered → Sized w → ReadsText m w r → Ninth w ↔ (r .outcome ≡ refusal Neither Depth)
+text-ninth = text-law.read-ninth
+
+pub text-read-back : {m : ℕ} {f xs ys : List ℕ} {x : Written} {r : Answer} → length f ≡ terms → WritesText m f xs ys x → x .outcome ≡ Answered
+    → ReadsText m (take (x .length) ys) r → r ≡ record { outcome = Answered; polynomial = f }
+text-read-back = writing-law.written-read-back

@@ -3,7 +3,7 @@
 --   Machine f      every coefficient is a machine word, as every u32 is
 --   NotTwo o       the outcome o is not No. 2
 --   no-two-compose, no-two-left-part, no-two-split, no-two-change-polynomial, no-two-change-pair, no-two-chain, no-two-count-chains,
---   no-two-nth-chain, no-two-record, no-two-write-sheet, no-two-read-sheet     so for each operation that checks a polynomial (for the reader: with the word 0 in every place)
+--   no-two-nth-chain, no-two-record, no-two-write-sheet, no-two-read-sheet, no-two-write-text, no-two-read-text     so for each operation that checks a polynomial (for the reader: with the word 0 in every place)
 use mathlib.Core.Path.{_≡_, sym, ap, _∙_}
 use mathlib.Core.Bool.{Bool, true, false, not, cond, _&&_, _||_}
 use mathlib.Core.Logic.{by-cases}
@@ -13,7 +13,7 @@ use native.Mathlib.Decide.{decLe}
 use native.Mathlib.Omega.{arith}
 use lib.Dec.{eqb, ltb}
 use lib.ListN.{length}
-use Rattle.algebra.specs.Polynomial.{coef, degree, limit, terms}
+use Rattle.algebra.specs.Polynomial.{coef, degree, limit, terms, reduced}
 use Rattle.algebra.specs.Chain.{degrees, product}
 use Rattle.algebra.proofs.Numbers.{table-below, table-above}
 use Rattle.refusal.specs.Refusal.{number, refusal, refuse, _then_}
@@ -23,6 +23,7 @@ use Rattle.refusal.specs.declared.Reason.{Reason}
 use Rattle.refusal.specs.declared.Reason.the-variants as reason
 use Rattle.refusal.specs.declared.Outcome.{Outcome}
 use Rattle.refusal.specs.declared.Outcome.the-variants.{Answered, Refused}
+use Rattle.refusal.proofs.Outcomes.{never}
 use Rattle.polynomial.specs.Moduli.{machine-words, modulus}
 use Rattle.polynomial.specs.Checks.{check-degree, check-leading, check-polynomial, check-one, check-two, check-pair}
 use Rattle.polynomial.specs.Answers.{nothing, no-parts}
@@ -52,6 +53,11 @@ use Rattle.sheet.specs.Answers.{unread, ReadsSheet, WritesSheet}
 use Rattle.sheet.specs.Answers as answers
 use Rattle.sheet.specs.declared.Contents.{Contents}
 use Rattle.sheet.proofs.Words.{Bytes, bytes-piece, word-small}
+use Rattle.text.specs.Writing.{written}
+use Rattle.text.specs.Meaning.{meaning}
+use Rattle.text.specs.Answers.{ReadsText, check-text, WritesText, answer, checked as checked-text}
+use Rattle.text.specs.Answers as text
+use Rattle.text.specs.declared.Written.{Written}
 use Rattle.desk.specs.Face.{told}
 
 -- every coefficient is a machine word
@@ -218,3 +224,28 @@ module _ {b : List ℕ} (s : Bytes b) (z : (i : ℕ) → i < most-parts → word
   no-two-read-sheet {xs} (answers.short e a q) = not-as (ap (λ (x : Contents). x .outcome) q ∙ sym e) (not-room (length b) (length xs))
   no-two-read-sheet (answers.refused e k a q) = not-as (ap (λ (x : Contents). x .outcome) q ∙ sym k) not-sheet
   no-two-read-sheet (answers.taken e k a q) = not-as (ap (λ (x : Contents). x .outcome) q) not-answered
+
+pub no-two-write-text : {f xs ys : List ℕ} {x : Written} → Machine f → WritesText machine-words f xs ys x → NotTwo (x .outcome)
+unfolding check-text
+no-two-write-text {f} {xs} m (text.refused p a e) =
+    not-as (ap (λ (x : Written). x .outcome) e ∙ sym p) (not-then (check-one machine-words f) _ (not-check-one m) (not-refuse (ltb (length xs) (length (written f))) Neither reason.Area (λ e. omega arith)))
+no-two-write-text m (text.wrote p a e) = not-as (ap (λ (x : Written). x .outcome) e) not-answered
+
+not-checked : (f : List ℕ) → NotTwo (checked-text f .outcome)
+unfolding nothing checked-text check-degree check-leading
+not-checked f = go (ltb (degree f) 2) (not (eqb (coef f (degree f)) 1))
+  where
+    go : (s t : Bool) → NotTwo (answer (refuse s First reason.Degree then refuse t First reason.Leading) f .outcome)
+    go true t = not-refusal First reason.Degree (λ e. omega arith)
+    go false true = not-refusal First reason.Leading (λ e. omega arith)
+    go false false = not-answered
+
+-- what is read is reduced, so that 2 is never due
+pub no-two-read-text : {w : List ℕ} {x : Answer} → ReadsText machine-words w x → NotTwo (x .outcome)
+unfolding nothing
+no-two-read-text (text.modulus p e) = absurd (never p words-taken)
+no-two-read-text (text.unsized p n e) = not-as (ap (λ (x : Answer). x .outcome) e) (not-refusal Neither reason.Spelling (λ e. omega arith))
+no-two-read-text (text.ninth p s n e) = not-as (ap (λ (x : Answer). x .outcome) e) (not-refusal Neither reason.Depth (λ e. omega arith))
+no-two-read-text (text.misspelt p s n l e) = not-as (ap (λ (x : Answer). x .outcome) e) (not-refusal Neither reason.Spelling (λ e. omega arith))
+no-two-read-text (text.high p s z n e) = not-as (ap (λ (x : Answer). x .outcome) e) (not-refusal Neither reason.Limit (λ e. omega arith))
+no-two-read-text (text.read p s z i e) = not-as (ap (λ (x : Answer). x .outcome) e) (not-checked (reduced machine-words (meaning (z .tree) machine-words)))

@@ -5,6 +5,7 @@
 --   judged-deep           the fault of a ninth bracket: Ninth
 --   judged-spelling       any other: no sentence, and not Ninth
 --   sentence-verdict      the verdict of a sentence is its tree
+--   fault-or-start        a text begins a sentence, or has a first fault
 use mathlib.Core.Path.{_≡_, refl, sym, ap, _∙_}
 use mathlib.Core.Bool.{Bool, true, false, cond}
 use mathlib.Core.Logic.{_⊎_, inl, inr, ⊎-elim}
@@ -17,7 +18,7 @@ use lib.Dec.{ltb, leb, eqb}
 use lib.ListN.{length}
 use Rattle.algebra.specs.Polynomial.{limit}
 use Rattle.text.specs.Grammar.{Sum, Factor, plain, raised, number, unknown, bracket, spell, Fits, digits-value, number-digits, most-power, most-deep}
-use Rattle.text.specs.Language.{Sentence, Start, Ninth}
+use Rattle.text.specs.Language.{Sentence, Start, FaultAt, Ninth}
 use Rattle.text.specs.States.{Frame, Fault, spelling, deep, State, begin as begin-at, expect, caret, factor, stuck, fresh, joined, is-digit, opening, longer, powered, closed, after, step, run, Verdict, good, bad, verdict}
 use Rattle.text.proofs.Spelling.{run-append, run-stuck, sum-run, sum-verdict}
 use Rattle.text.proofs.Reached.{Fine, fine-run, fine-first, fine-start, fine-good, by-cond}
@@ -208,18 +209,18 @@ module _ (w : List ℕ) where
   ninth-run : Ninth w → run most-deep begin w ≡ stuck deep
   unfolding run
   ninth-run n =
-      rw (← n .whole) (run-append most-deep begin (n .before) (40 ∷ n .after) ∙ ap (λ q. run most-deep q (n .after)) (⊎-elim stops goes (stuck-or (step most-deep q 40))) ∙ run-stuck most-deep deep (n .after))
+      rw (← n .first .whole) (run-append most-deep begin (n .before) (40 ∷ n .first .after) ∙ ap (λ q. run most-deep q (n .first .after)) (⊎-elim stops goes (stuck-or (step most-deep q 40))) ∙ run-stuck most-deep deep (n .first .after))
     where
       q : State
       q = run most-deep begin (n .before)
 
       goes : ((e : Fault) → step most-deep q 40 ≡ stuck e → ⊥) → step most-deep q 40 ≡ stuck deep
-      goes free = absurd (n .fault (fine-start most-deep (n .before ++ (40 ∷ [])) (run most-deep begin (n .before ++ (40 ∷ []))) (fine-run most-deep [] begin (n .before ++ (40 ∷ [])) (fine-first most-deep)) (λ e h. free e (sym (run-last most-deep begin (n .before) 40) ∙ h))))
+      goes free = absurd (n .first .fault (fine-start most-deep (n .before ++ (40 ∷ [])) (run most-deep begin (n .before ++ (40 ∷ []))) (fine-run most-deep [] begin (n .before ++ (40 ∷ [])) (fine-first most-deep)) (λ e h. free e (sym (run-last most-deep begin (n .before) 40) ∙ h))))
 
       stops : (e : Fault) × (step most-deep q 40 ≡ stuck e) → step most-deep q 40 ≡ stuck deep
       stops (e, h) = ⊎-elim (λ d. d)
           (λ d. absurd (starts-run (suc most-deep) (n .before ++ (40 ∷ [])) (n .deeper) e
-          (run-last (suc most-deep) begin (n .before) 40 ∙ ap (λ z. step (suc most-deep) z 40) (run-deeper most-deep (n .before) begin (starts-run most-deep (n .before) (n .start))) ∙ d ∙ h)))
+          (run-last (suc most-deep) begin (n .before) 40 ∙ ap (λ z. step (suc most-deep) z 40) (run-deeper most-deep (n .before) begin (starts-run most-deep (n .before) (n .first .start))) ∙ d ∙ h)))
           (deeper most-deep q 40)
 
   pub judged-spelling : verdict (run most-deep begin w) ≡ bad spelling → (Sentence most-deep w → ⊥) × (Ninth w → ⊥)
@@ -237,9 +238,37 @@ deep-verdict (factor [] f t) h = absurd (let y : _≡_ {A = ℕ} 0 1 = cc in ome
 deep-verdict (factor (g ∷ st) f t) h = absurd (let y : _≡_ {A = ℕ} 0 1 = cc in omega arith)
 deep-verdict (stuck e) h = cc
 
+-- what the run shows is what the language says
+fault-at : {w : List ℕ} {e : Fault} (f : First most-deep begin w e) → FaultAt w (f .before) (f .byte)
+fault-at {e = e} f =
+    record {
+      after = f .after;
+      whole = f .whole;
+      start = fine-start most-deep (f .before) (run most-deep begin (f .before)) (fine-run most-deep [] begin (f .before) (fine-first most-deep)) (f .free);
+      fault = λ z. starts-run most-deep (f .before ++ (f .byte ∷ [])) z e (run-last most-deep begin (f .before) (f .byte) ∙ f .fault);
+    }
+
+-- the start of a run is no fault
+fresh-start : (d : Fault) → begin ≡ stuck d → ⊥
+fresh-start d z = let y : _≡_ {A = ℕ} 0 1 = cc in omega arith
+
+-- a first fault, wherever it is
+pub record FirstFault (w : List ℕ) : Type 0 where
+  pub before : List ℕ
+  pub byte : ℕ
+  pub first : FaultAt w before byte
+
+-- every text begins a text of the language, or has a first fault
+pub fault-or-start : (w : List ℕ) → Start most-deep w ⊎ FirstFault w
+fault-or-start w =
+    ⊎-elim
+    (λ z. let f = first most-deep w begin (z .0) fresh-start (z .1) in inr (record { before = f .before; byte = f .byte; first = fault-at f }))
+    (λ z. inl (fine-start most-deep w (run most-deep begin w) (fine-run most-deep [] begin w (fine-first most-deep)) z))
+    (stuck-or (run most-deep begin w))
+
 pub judged-deep : (w : List ℕ) → verdict (run most-deep begin w) ≡ bad deep → Ninth w
 unfolding step
-judged-deep w h = from (first most-deep w begin deep (λ d z. let y : _≡_ {A = ℕ} 0 1 = cc in omega arith) (deep-verdict (run most-deep begin w) h))
+judged-deep w h = from (first most-deep w begin deep fresh-start (deep-verdict (run most-deep begin w) h))
   where
     from : First most-deep begin w deep → Ninth w
     from f =
@@ -250,9 +279,6 @@ judged-deep w h = from (first most-deep w begin deep (λ d z. let y : _≡_ {A =
         run-last (suc most-deep) begin (f .before) 40 ∙ ap (λ z. step (suc most-deep) z 40) (run-deeper most-deep (f .before) begin (f .free)) ∙ o .one-more (suc most-deep) ∙ rw (lt-ltb (length (o .stack)) (suc most-deep) (omega arith)) refl in
         record {
           before = f .before;
-          after = f .after;
-          whole = rw (o .bracket-byte) at (f .whole);
-          start = fine-start most-deep (f .before) (run most-deep begin (f .before)) fine (f .free);
-          fault = λ z. starts-run most-deep (f .before ++ (40 ∷ [])) z deep (run-last most-deep begin (f .before) 40 ∙ (rw (o .bracket-byte) at (f .fault)));
+          first = rw (o .bracket-byte) at (fault-at f);
           deeper = fine-start (suc most-deep) (f .before ++ (40 ∷ [])) (run (suc most-deep) begin (f .before ++ (40 ∷ []))) (fine-run (suc most-deep) [] begin (f .before ++ (40 ∷ [])) (fine-first (suc most-deep))) (λ e z. let x = sym open9 ∙ z in let y : _≡_ {A = ℕ} 0 1 = cc in omega arith);
         }

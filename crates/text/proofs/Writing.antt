@@ -6,6 +6,7 @@
 --   tree-means, tree-within            it means f, and nothing on the way is above the limit
 --   written-sized                      the text has 1 to 8,192 bytes
 --   reads-back                         reading the written text of an accepted polynomial answers it
+--   written-read-back                  so for what the writer has written into an area
 use mathlib.Core.Path.{_≡_, refl, sym, ap, ap₂, _∙_}
 use mathlib.Core.Bool.{cond}
 use mathlib.Core.List.{List, [], _∷_, _++_, append-assoc, append-nil}
@@ -15,24 +16,27 @@ use native.Mathlib.Omega.{arith}
 use native.Mathlib.Decide.{decLt, ℕ-discrete}
 use borrow.Author.Tests.{lt-ltb, le-ltb, eq-eqb, ne-eqb}
 use lib.Dec.{ltb, eqb}
-use lib.ListN.{length, length-append, List·getD-eq-default}
+use lib.ListN.{length, take, drop, length-append, List·getD-eq-default}
+use lib.Seq.{take-append-le, take-length}
 use Rattle.algebra.specs.Polynomial.{coef, power, degree, limit, terms, reduced}
 use Rattle.algebra.proofs.Coefficients.{coef-plus}
 use Rattle.algebra.proofs.Highest.{degree-above, degree-below}
 use Rattle.algebra.proofs.Numbers.{table-ext}
 use Rattle.algebra.proofs.Reduction.{reduced-equal, reduced-reduced}
-use Rattle.polynomial.proofs.Acceptance.{accepted-modulus, degree-fits}
+use Rattle.polynomial.proofs.Acceptance.{accepted-modulus, accepted-one, degree-fits}
 use Rattle.built.specs.Built as built-specs
 use Rattle.built.proofs.Singles.{single-same, single-other, single-high, single-low, number-times, x-term, zero-low}
 use Rattle.built.proofs.Joining.{reduced-low}
 use Rattle.refusal.specs.declared.Outcome.the-variants.{Answered}
 use Rattle.polynomial.specs.declared.Answer.{Answer}
-use Rattle.polynomial.specs.Checks.{Accepted}
+use Rattle.polynomial.specs.Checks.{check-one, Accepted}
 use Rattle.digits.specs.Digits.{decimal, digits, most-digits, digit}
 use Rattle.text.specs.Grammar.{Sum, Product, term, add, single, multiply, plain, raised, number, unknown, spell, digits-value, digits-value-from, AllDigits, Digits, Fits, FitsProduct, most-deep}
 use Rattle.text.specs.Language.{Sentence}
 use Rattle.text.specs.Meaning.{meaning, meaning-product, Within, WithinProduct}
-use Rattle.text.specs.Answers.{Sized, ReadsText, checked}
+use Rattle.text.specs.Answers.{Sized, ReadsText, check-text, WritesText, refused, wrote, checked}
+use Rattle.text.specs.declared.Written.{Written}
+use Rattle.refusal.proofs.Outcomes.{never, then-both}
 use Rattle.text.specs.Writing.{term-text, lower-term, lower, written, most-term}
 use Rattle.digits.proofs.Text.{tens, small, large}
 use Rattle.text.proofs.Reached.{all-more}
@@ -293,3 +297,13 @@ module _ {m : ℕ} {f : List ℕ} (ok : Accepted m f) where
     where
       top : coef f (degree f) ≡ 1
       top = sym (N.mod-eq-of-lt (ok .reduced .below (degree f) (rw (ok .reduced .long) at (degree-below f (omega (arith, ok .reduced .long)))))) ∙ ok .monic .top ∙ N.mod-eq-of-lt (accepted-modulus (ok .modulus) .above-one)
+
+-- what the writer wrote, read, answers the polynomial
+pub written-read-back : {m : ℕ} {f xs ys : List ℕ} {x : Written} {r : Answer} → length f ≡ terms → WritesText m f xs ys x → x .outcome ≡ Answered
+    → ReadsText m (take (x .length) ys) r → r ≡ record { outcome = Answered; polynomial = f }
+unfolding check-text
+written-read-back l (refused p a e) o t = absurd (never (ap (λ (w : Written). w .outcome) e) o)
+written-read-back {m} {f} {xs} {ys} {x} l (wrote p a e) o t = reads-back (accepted-one l (then-both (check-one m f) _ p .0)) (rw back at t)
+  where
+    back : take (x .length) ys ≡ written f
+    back = ap₂ take (ap (λ (w : Written). w .length) e) a ∙ take-append-le (length (written f)) (written f) (drop (length (written f)) xs) (N.le-refl (length (written f))) ∙ take-length (written f)
