@@ -1,8 +1,9 @@
 /* The desk for C and C++: link libdesk.a, which `rt staticlib desk` writes to target/staticlib for x86-64 Linux.
  *
  * A polynomial is DESK_TERMS coefficients, that of x^0 first. Every function takes any numbers: what 01 or 02 refuses is refused
- * by its number, and every result is written, zeros after a refusal (a change is then (1, 0), a sheet stays as it is, and after
- * No. 11 so does an area). What is past the DESK_WORDS of an area, or the DESK_SHEET of a sheet, is neither read nor written.
+ * by its number, and every result is written, zeros after a refusal (a change is then (1, 0), a sheet and a text's area stay as
+ * they are, and after No. 11 so does a chain's area). What is past the DESK_WORDS of a chain's area, the DESK_SHEET of a sheet,
+ * or the text that is written, is neither read nor written.
  *
  * A modulus m is a word: 2 to 2,147,483,647, or 0, which means 2^32. At 2^32 every word is a coefficient; No. 5 is given for an
  * even r and for chains of an even n, No. 8 only for an even a. The modulus that desk_check and desk_read_sheet write is that
@@ -13,9 +14,10 @@
  * it reads. What it only reads may overlap: g and h may be one polynomial. Nobody else writes any of it before the call
  * returns. The library keeps no pointer and has no state, so threads may call it at once; it calls memcpy, memmove and memset.
  *
- * Stack that a call takes, about (stack.c measures it, docs/STACK.md has the bytes): desk_nth_chain 36 KB, desk_count_chains
- * and desk_chain 35 KB, desk_split 26 KB, desk_left_part 6 KB, desk_change_pair 5 KB, desk_change_polynomial 3 KB, desk_compose
- * and desk_read_sheet 2 KB, every other 1 KB. A thread wants some 10 KB more for itself. */
+ * Stack that a call takes, about (stack.c measures it, docs/STACK.md has the bytes): desk_read_text 77 KB, desk_nth_chain 36 KB,
+ * desk_count_chains and desk_chain 35 KB, desk_split 26 KB, desk_left_part 6 KB, desk_change_pair and desk_write_text 5 KB,
+ * desk_change_polynomial 3 KB, desk_compose and desk_read_sheet 2 KB, every other 1 KB. A thread wants some 10 KB more for
+ * itself. */
 #ifndef DESK_H
 #define DESK_H
 
@@ -31,6 +33,8 @@ extern "C" {
 #define DESK_WORDS (DESK_PARTS * DESK_TERMS) /* words of a chain area that are used */
 #define DESK_BYTES (4 * (1 + DESK_TERMS))    /* bytes of a record: the modulus, then the coefficients */
 #define DESK_SHEET (DESK_PARTS * DESK_BYTES) /* bytes of a chain sheet that are used: a record for each place of an area */
+#define DESK_TEXT_BYTES 8192                 /* bytes of the longest text that is read */
+#define DESK_TEXT_MOST (24 * DESK_TERMS)     /* bytes of an area in which every text fits that is written */
 #define DESK_TWO_TO_32 0                     /* the modulus word that means 2^32 */
 
 typedef uint32_t desk_polynomial[DESK_TERMS];
@@ -40,9 +44,12 @@ typedef uint32_t desk_polynomial[DESK_TERMS];
  *    2  a coefficient is m or more                  7  no pair; no left part
  *    3  the degree is below 2, or all is zero       8  a or b is m or more, or a has no inverse
  *    4  the leading coefficient is not 1            9  fewer bytes than a record has
- *    5  r, or a chain's n, shares a factor with m  10  the composed degree is too high
- *   11  the area has fewer than DESK_WORDS words, or the sheet has fewer than DESK_SHEET bytes
+ *    5  r, or a chain's n, shares a factor with m
+ *   10  the composed degree is too high, or a sum, product or power in a text has a nonzero coefficient above x^126
+ *   11  the area has fewer than DESK_WORDS words, or the sheet has fewer than DESK_SHEET bytes, or the text does not fit its area
  *   12  the used places are not the first ones, or none is used, or the moduli of a sheet differ
+ *   13  the text is misspelt, or a power in it is above 126, or it has no byte or more than DESK_TEXT_BYTES
+ *   14  a ninth bracket is opened inside eight
  *   18  j is not below the number of chains
  * polynomial: which one 2, 3 and 4 concern, 1 the first, 2 the second, 16 + i that in place i, from 0, of a sheet or of the
  *    area that is written as one; 0 for all others
@@ -86,6 +93,12 @@ desk_refused desk_write_sheet(uint32_t m, const uint32_t *area, size_t words, ui
 /* the sheet's parts in the area, and zeros in the places that are not used; its modulus; the f that the parts compose to */
 desk_refused desk_read_sheet(const uint8_t *sheet, size_t bytes, uint32_t *area, size_t words, uint32_t *modulus,
                              desk_polynomial f);
+/* the f that a text means, as (x^2+x)^2-3*x: sums and differences of products; the factors of a product, with * between them, are
+ * numbers, x, and sums in brackets, at most 8 in one another, each with or without a power, 0 to 126; a sum may begin with a
+ * minus. A number, a power too, has at most 10 digits. No spaces, and no zero byte at the end. */
+desk_refused desk_read_text(uint32_t m, const uint8_t *text, size_t count, desk_polynomial f);
+/* f as a text that reads back to it, as 1*x^2+1*x^1+3*x^0, with no zero byte at the end; length: its bytes, 0 after a refusal */
+desk_refused desk_write_text(uint32_t m, const desk_polynomial f, uint8_t *area, size_t count, size_t *length);
 
 #ifdef __cplusplus
 }

@@ -2,7 +2,7 @@
 
 A polynomial is a list of at most TERMS whole numbers, constant term first; an answer has no zeros above its degree. A change
 is (a, b). Where 01 or 02 refuses, Refused is raised. What is no request at all raises ValueError (a number that does not fit
-its word, a list that is too long) or TypeError (what is no whole number).
+its word, a list that is too long) or TypeError (what is no whole number, no bytes, no text).
 
 A modulus m is a word: 2 to 2147483647, or 0, which means 2^32 (2**32 fits no word). The modulus in an answer is that word too.
 At 2^32 every word is a coefficient; No. 5 is given for an even r and for chains of an even n, No. 8 only for an even a.
@@ -19,6 +19,8 @@ PARTS = 6  # parts of a chain at most
 WORDS = PARTS * TERMS  # words of a chain area that are used
 BYTES = 4 * (1 + TERMS)  # bytes of a record: the modulus, then the coefficients
 SHEET = PARTS * BYTES  # bytes of a chain sheet that are used: a record for each place of an area
+TEXT_BYTES = 8192  # bytes of the longest text that is read
+TEXT_MOST = 24 * TERMS  # bytes of an area in which every text fits that is written
 TWO_TO_32 = 0  # the modulus word that means 2^32
 
 REASONS = {
@@ -31,9 +33,11 @@ REASONS = {
     7: "no pair; no left part",
     8: "a or b is m or more, or a has no inverse",
     9: "fewer bytes than a record has",
-    10: "the composed degree is too high",
-    11: f"the area has fewer than {WORDS} words, or the sheet has fewer than {SHEET} bytes",
+    10: "the composed degree is too high, or a sum, product or power in a text has a nonzero coefficient above x^126",
+    11: f"the area has fewer than {WORDS} words, or the sheet has fewer than {SHEET} bytes, or the text does not fit its area",
     12: "the used places are not the first ones, or none is used, or the moduli of a sheet differ",
+    13: f"the text is misspelt, or a power in it is above 126, or it has no byte or more than {TEXT_BYTES}",
+    14: "a ninth bracket is opened inside eight",
     18: "j is not below the number of chains",
 }
 
@@ -101,6 +105,8 @@ _FUNCTIONS = {
     "part": (_Words, _Size, _Size, _Place),
     "write_sheet": (_Word, _Words, _Size, _Bytes, _Size),
     "read_sheet": (ctypes.c_char_p, _Size, _Words, _Size, _Words, _Polynomial),
+    "read_text": (_Word, ctypes.c_char_p, _Size, _Polynomial),
+    "write_text": (_Word, _Polynomial, _Bytes, _Size, ctypes.POINTER(_Size)),
 }
 
 
@@ -301,3 +307,23 @@ def read_sheet(sheet, area=None):
     _answered(refused)
     parts = [part(words, i) for i in range(PARTS)]
     return Sheet(modulus.value, [p for p in parts if p], _trimmed(f))
+
+
+def read_text(m, text):
+    """The polynomial that a text means, a str or bytes, as (x^2+x)^2-3*x."""
+    data = text.encode() if isinstance(text, str) else memoryview(text).tobytes()
+    f = _Polynomial()
+    _answered(_desk.desk_read_text(_number(m), data, len(data), f))
+    return _trimmed(f)
+
+
+def write_text(m, f, area=None):
+    """f as a text that read_text reads back, as 1*x^2+1*x^1+3*x^0.
+
+    A bytearray given as the area is written as 02 says.
+    """
+    area = bytearray(TEXT_MOST) if area is None else area
+    places = (ctypes.c_uint8 * len(area)).from_buffer(area)
+    length = _Size()
+    _answered(_desk.desk_write_text(_number(m), _polynomial(f), places, len(area), length))
+    return area[: length.value].decode()

@@ -1,5 +1,5 @@
-/* 01's worked polynomials, 02's x^6, and others modulo 25 and 2^32, asked of all fourteen functions. It is C and C++; worked.py
- * asks the same and prints the same. */
+/* 01's worked polynomials, 02's x^6 and (x^2+x)^2-3*x, and others modulo 25 and 2^32, asked of all sixteen functions. It is C and
+ * C++; worked.py asks the same and prints the same. */
 #include <inttypes.h>
 #include <stdio.h>
 #include <string.h>
@@ -138,6 +138,16 @@ static void read_sheet(const char *name, const uint8_t *sheet, size_t bytes, uin
     printf(", composed");
     print(f, DESK_TERMS);
     printf("\n");
+}
+
+static void read_text(const char *name, uint32_t m, const char *text, desk_polynomial f) {
+    one(name, desk_read_text(m, (const uint8_t *)text, strlen(text), f), f);
+}
+
+static size_t write_text(const char *name, uint32_t m, const desk_polynomial f, char *area, size_t count) {
+    size_t length;
+    if (answered(name, desk_write_text(m, f, (uint8_t *)area, count, &length))) printf(" %.*s\n", (int)length, area);
+    return length;
 }
 
 static void same(const char *name, const void *one, const void *other, size_t size) {
@@ -332,6 +342,30 @@ static void whole_words(void) {
     one("m 4294967295", desk_compose(4294967295, square, square, f), f);
 }
 
+static void texts(void) {
+    desk_polynomial V, f;
+    char area[DESK_TEXT_MOST], before[DESK_TEXT_MOST] = {0};
+    read_text("V = (x^2+x)^2-3*x", 101, "(x^2+x)^2-3*x", V);
+    size_t length = write_text("V, written", 101, V, area, sizeof area);
+    desk_read_text(101, (const uint8_t *)area, length, f);
+    same("V, written and read", V, f, sizeof f);
+    memcpy(area, before, sizeof area);
+    write_text("V, written, a byte short", 101, V, area, length - 1);
+    same("V, area after that", before, area, sizeof area);
+    write_text("V, written, m 97", 97, V, area, sizeof area);
+
+    read_text("x^2^2", 101, "x^2^2", f);
+    read_text("no text", 101, "", f);
+    read_text("x^2 in eight brackets", 101, "((((((((x^2))))))))", f);
+    read_text("x^2 in nine brackets", 101, "(((((((((x^2)))))))))", f);
+    read_text("(2*x^126+1)^2, m 5", 5, "(2*x^126+1)^2", f);
+    read_text("(2*x^126+1)^2, m 4", 4, "(2*x^126+1)^2", f);
+    read_text("-x^2", 101, "-x^2", f);
+
+    read_text("2^32, x^3-1", DESK_TWO_TO_32, "x^3-1", f);
+    write_text("2^32, x^3-1, written", DESK_TWO_TO_32, f, area, sizeof area);
+}
+
 int main(void) {
     desk_polynomial f;
     pairs();
@@ -345,5 +379,6 @@ int main(void) {
     one("E as h, m 9", desk_compose(9, square, E, f), f);
     sheets();
     whole_words();
+    texts();
     return 0;
 }

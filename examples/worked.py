@@ -1,4 +1,4 @@
-"""01's worked polynomials, 02's x^6, and others modulo 25 and 2^32, asked of all operations of desk.py.
+"""01's worked polynomials, 02's x^6 and (x^2+x)^2-3*x, and others modulo 25 and 2^32, asked of all operations of desk.py.
 
 It prints what worked.c prints.
 """
@@ -226,6 +226,27 @@ def whole_words():
     say("m 4294967295", str, desk.compose, most, SQUARE, SQUARE)
 
 
+def texts():
+    v = say("V = (x^2+x)^2-3*x", str, desk.read_text, 101, "(x^2+x)^2-3*x")
+    text = say("V, written", str, desk.write_text, 101, v)
+    same("V, written and read", v, desk.read_text(101, text))
+    area = bytearray(len(text) - 1)
+    say("V, written, a byte short", str, desk.write_text, 101, v, area)
+    same("V, area after that", bytearray(len(text) - 1), area)
+    say("V, written, m 97", str, desk.write_text, 97, v)
+
+    say("x^2^2", str, desk.read_text, 101, "x^2^2")
+    say("no text", str, desk.read_text, 101, "")
+    say("x^2 in eight brackets", str, desk.read_text, 101, 8 * "(" + "x^2" + 8 * ")")
+    say("x^2 in nine brackets", str, desk.read_text, 101, 9 * "(" + "x^2" + 9 * ")")
+    say("(2*x^126+1)^2, m 5", str, desk.read_text, 5, "(2*x^126+1)^2")
+    say("(2*x^126+1)^2, m 4", str, desk.read_text, 4, "(2*x^126+1)^2")
+    say("-x^2", str, desk.read_text, 101, "-x^2")
+
+    f = say("2^32, x^3-1", str, desk.read_text, desk.TWO_TO_32, b"x^3-1")
+    say("2^32, x^3-1, written", str, desk.write_text, desk.TWO_TO_32, f)
+
+
 def no_request(error, ask, *request):
     """What is no request at all raises a plain error of Python, and the desk is not asked."""
     try:
@@ -258,6 +279,10 @@ def no_requests():
     no_request(ValueError, desk.write_sheet, 101, [-1])
     no_request(ValueError, desk.read_sheet, b"", [1 << 32])
     no_request(TypeError, desk.read_sheet, desk.SHEET)
+    no_request(ValueError, desk.read_text, 1 << 32, "x^2")
+    no_request(TypeError, desk.read_text, 101, 7)
+    no_request(ValueError, desk.write_text, 101, [-1, 0, 1])
+    no_request(TypeError, desk.write_text, 101, SQUARE, bytes(desk.TEXT_MOST))
 
 
 if __name__ == "__main__":
@@ -269,4 +294,5 @@ if __name__ == "__main__":
     records()
     sheets()
     whole_words()
+    texts()
     no_requests()
