@@ -4,8 +4,9 @@
  *     cc -O2 -Wl,-z,now -o target/examples/stack examples/stack.c target/staticlib/libdesk.a && target/examples/stack
  *
  * The requests are x^n and x^n + x at all degrees of g and h, each of their chains and the j after the last, and the sheet of g
- * and h, modulo 101 and 2^32; the most that any of them takes is printed. By -z,now memcpy is found before the first call, which
- * would count as the function's own. */
+ * and h; texts with 0 to 8 brackets in one another, good and faulty; and a polynomial without zeros, written: modulo 101 and
+ * 2^32. The most that any of them takes is printed. By -z,now memcpy is found before the first call, which would count as the
+ * function's own. */
 #include <stdio.h>
 #include <string.h>
 #include <ucontext.h>
@@ -20,10 +21,10 @@ static ucontext_t caller, callee;
 
 static uint32_t m;
 static uint8_t square[DESK_BYTES] = {[4 * 3] = 1};
-static desk_polynomial f, g, h, left, right;
+static desk_polynomial f, g, h, left, right, dense;
 static uint32_t area[DESK_WORDS], change[2];
-static uint8_t sheet[DESK_SHEET];
-static size_t r, j, numbers[3];
+static uint8_t sheet[DESK_SHEET], text[DESK_TEXT_BYTES], written[DESK_TEXT_MOST];
+static size_t r, j, length, numbers[3];
 
 static void check(void) { desk_check(square, sizeof square, change, left, numbers); }
 static void compose(void) { desk_compose(m, g, h, left); }
@@ -39,6 +40,8 @@ static void nth_chain(void) { desk_nth_chain(m, f, j, area, DESK_WORDS, numbers)
 static void part(void) { desk_part(area, DESK_WORDS, 0, numbers); }
 static void write_sheet(void) { desk_write_sheet(m, area, DESK_WORDS, sheet, DESK_SHEET); }
 static void read_sheet(void) { desk_read_sheet(sheet, DESK_SHEET, area, DESK_WORDS, change, left); }
+static void read_text(void) { desk_read_text(m, text, length, left); }
+static void write_text(void) { desk_write_text(m, dense, written, DESK_TEXT_MOST, numbers); }
 
 static const struct {
     const char *name;
@@ -48,6 +51,7 @@ static const struct {
     {"desk_change_polynomial", change_polynomial}, {"desk_change_pair", change_pair}, {"desk_combine", combine},
     {"desk_undo", undo}, {"desk_chain", chain}, {"desk_count_chains", count_chains}, {"desk_nth_chain", nth_chain},
     {"desk_part", part}, {"desk_write_sheet", write_sheet}, {"desk_read_sheet", read_sheet},
+    {"desk_read_text", read_text}, {"desk_write_text", write_text},
 };
 
 static size_t taken(void (*run)(void)) {
@@ -67,6 +71,7 @@ static size_t most_taken(void (*run)(void), uint32_t modulus) {
     size_t most = 0;
     m = modulus;
     square[0] = (uint8_t)m;
+    for (size_t i = 0; i < DESK_TERMS; i++) dense[i] = i + 1 < DESK_TERMS ? m - 1 : 1;
     for (r = 2; 2 * r < DESK_TERMS; r++) {
         for (size_t s = 2; r * s < DESK_TERMS; s++) {
             memset(f, 0, sizeof f);
@@ -90,9 +95,36 @@ static size_t most_taken(void (*run)(void), uint32_t modulus) {
     return most;
 }
 
+static void type(const char *more) {
+    while (*more) text[length++] = (uint8_t)*more++;
+}
+
+static size_t most_of_texts(uint32_t modulus) {
+    static const char *const before[] = {"(", "-(", "x*(", "1-x*("};
+    static const char *const inside[] = {"x", "-x^2", "2*x^126", "3^2-x*x+1", "x^127", "x+", "(", ""};
+    static const char *const after[] = {")", ")^2", ")*x", ")^1*x^0-1"};
+    size_t most = 0;
+    m = modulus;
+    for (size_t kind = 0; kind < 4 * 8 * 4; kind++) {
+        for (size_t depth = 0; depth <= 8; depth++) {
+            length = 0;
+            for (size_t i = 0; i < depth; i++) type(before[kind % 4]);
+            type(inside[kind / 4 % 8]);
+            for (size_t i = 0; i < depth; i++) type(after[kind / 32]);
+            size_t now = taken(read_text);
+            if (most < now) most = now;
+        }
+    }
+    return most;
+}
+
+static size_t most_of(void (*run)(void), uint32_t modulus) {
+    return run == read_text ? most_of_texts(modulus) : most_taken(run, modulus);
+}
+
 int main(void) {
     for (size_t i = 0; i < sizeof functions / sizeof *functions; i++) {
-        size_t most = most_taken(functions[i].run, 101), at_2_32 = most_taken(functions[i].run, DESK_TWO_TO_32);
+        size_t most = most_of(functions[i].run, 101), at_2_32 = most_of(functions[i].run, DESK_TWO_TO_32);
         if (most < at_2_32) most = at_2_32;
         printf("%-24s %6zu bytes, %zu KB\n", functions[i].name, most, (most + 1023) / 1024);
     }
