@@ -34,10 +34,10 @@ use Rattle.built.specs.Built as built-specs
 use Rattle.built.proofs.Building.{mixed-past, product-past}
 use Rattle.built.proofs.Singles.{zero-low, single-low, single-power, shifts-single}
 
-pub low-same : {m : ℕ} {f g : List ℕ} → Same m f g → Low m f → Low m g
+low-same : {m : ℕ} {f g : List ℕ} → Same m f g → Low m f → Low m g
 low-same s l = record { above = λ i h. sym (s .at i) ∙ l .above i h }
 
-pub reduced-alike : {m : ℕ} {f g : List ℕ} → Same m f g → reduced m f ≡ reduced m g
+reduced-alike : {m : ℕ} {f g : List ℕ} → Same m f g → reduced m f ≡ reduced m g
 unfolding reduced
 reduced-alike s = table-ext terms _ _ (λ i l. s .at i)
 
@@ -81,7 +81,7 @@ unfolding built
 held-low m f e is = is ∙ ap with-degree e
 
 -- where it ends
-pub reduced-ends : (m : ℕ) {d : ℕ} (f : List ℕ) {c : List ℕ} → 0 < m → d ≤ limit → ((i : ℕ) → d < i → i ≤ limit → coef f i % m ≡ 0) → c ≡ reduced m f → Ends d c
+reduced-ends : (m : ℕ) {d : ℕ} (f : List ℕ) {c : List ℕ} → 0 < m → d ≤ limit → ((i : ℕ) → d < i → i ≤ limit → coef f i % m ≡ 0) → c ≡ reduced m f → Ends d c
 unfolding terms
 reduced-ends m {d} f {c} pos l z e = rw e (record { long = reduced-reduced m pos f .long; past = λ k b. go k b (decLt k terms); inside = l })
   where

@@ -15,7 +15,7 @@ use native.Mathlib.Omega.{arith}
 use native.Mathlib.Decide.{decLt, ℕ-discrete}
 use lib.ListN.{length, set, length-set, replicate, length-replicate}
 use lib.Seq.{getD-set-same, getD-set-other}
-use Rattle.algebra.specs.Polynomial.{coef, scaled, times, power, limit, terms, reduced, Same}
+use Rattle.algebra.specs.Polynomial.{coef, scaled, times, power, limit, terms, reduced}
 use Rattle.algebra.proofs.Coefficients.{coef-plus, coef-scaled}
 use Rattle.algebra.proofs.Highest.{degree-above}
 use Rattle.algebra.proofs.Numbers.{one-pow}
@@ -55,7 +55,7 @@ shifted-times : (p q : List ℕ) (j : ℕ) → coef (times (0 ∷ p) q) j ≡ co
 unfolding times
 shifted-times p q j = coef-plus (scaled 0 q) (0 ∷ times p q) j ∙ ap (λ (n : ℕ). n + coef (0 ∷ times p q) j) (coef-scaled 0 q j ∙ N.zero-mul (coef q j)) ∙ N.zero-add _
 
-pub single-times : (c k d i : ℕ) (q : List ℕ) → ((j : ℕ) → coef q j ≡ coef (single d i) j) → (j : ℕ) → coef (times (single c k) q) j ≡ coef (single (c * d) (k + i)) j
+single-times : (c k d i : ℕ) (q : List ℕ) → ((j : ℕ) → coef q j ≡ coef (single d i) j) → (j : ℕ) → coef (times (single c k) q) j ≡ coef (single (c * d) (k + i)) j
 unfolding single
 single-times c zero d i q e j = number-times c q j ∙ ap (λ (n : ℕ). c * n) (e j) ∙ single-scaled c d i j ∙ rw (N.zero-add i) refl
 single-times c (suc k) d i q e zero = shifted-times (single c k) q zero ∙ rw (N.suc-add k i) refl

@@ -53,7 +53,7 @@ use Rattle.sheet.specs.Answers.{unread, ReadsSheet, WritesSheet}
 use Rattle.sheet.specs.Answers as answers
 use Rattle.sheet.specs.declared.Contents.{Contents}
 use Rattle.sheet.proofs.Words.{Bytes, bytes-piece, word-small}
-use Rattle.text.specs.Writing.{written}
+use Rattle.text.specs.Writing.{text-of}
 use Rattle.text.specs.Meaning.{meaning}
 use Rattle.text.specs.Answers.{ReadsText, check-text, WritesText, answer, checked as checked-text}
 use Rattle.text.specs.Answers as text
@@ -228,7 +228,7 @@ module _ {b : List ℕ} (s : Bytes b) (z : (i : ℕ) → i < most-parts → word
 pub no-two-write-text : {f xs ys : List ℕ} {x : Written} → Machine f → WritesText machine-words f xs ys x → NotTwo (x .outcome)
 unfolding check-text
 no-two-write-text {f} {xs} m (text.refused p a e) =
-    not-as (ap (λ (x : Written). x .outcome) e ∙ sym p) (not-then (check-one machine-words f) _ (not-check-one m) (not-refuse (ltb (length xs) (length (written f))) Neither reason.Area (λ e. omega arith)))
+    not-as (ap (λ (x : Written). x .outcome) e ∙ sym p) (not-then (check-one machine-words f) _ (not-check-one m) (not-refuse (ltb (length xs) (length (text-of f))) Neither reason.Area (λ e. omega arith)))
 no-two-write-text m (text.wrote p a e) = not-as (ap (λ (x : Written). x .outcome) e) not-answered
 
 not-checked : (f : List ℕ) → NotTwo (checked-text f .outcome)

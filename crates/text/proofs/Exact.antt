@@ -16,7 +16,6 @@ use native.Mathlib.Decide.{decLt}
 use borrow.Author.Tests.{eqb-true, lt-ltb, le-ltb}
 use lib.Dec.{ltb, leb, eqb}
 use lib.ListN.{length}
-use Rattle.algebra.specs.Polynomial.{limit}
 use Rattle.text.specs.Grammar.{Sum, Factor, plain, raised, number, unknown, bracket, spell, Fits, digits-value, number-digits, most-power, most-deep}
 use Rattle.text.specs.Language.{Sentence, Start, FaultAt, Ninth}
 use Rattle.text.specs.States.{Frame, Fault, spelling, deep, State, begin as begin-at, expect, caret, factor, stuck, fresh, joined, is-digit, opening, longer, powered, closed, after, step, run, Verdict, good, bad, verdict}
@@ -29,13 +28,13 @@ begin = begin-at []
 
 -- ---- what begins a sentence
 
-pub sentence-verdict : (most : ℕ) (w : List ℕ) (z : Sentence most w) → verdict (run most begin w) ≡ good (z .tree)
+sentence-verdict : (most : ℕ) (w : List ℕ) (z : Sentence most w) → verdict (run most begin w) ≡ good (z .tree)
 sentence-verdict most w z = rw (← z .spelled) (ap verdict (sum-run (z .tree) most [] (z .fits)) ∙ sum-verdict (z .tree))
 
 good-or-bad : {v : Verdict} {s : Sum} {e : Fault} → v ≡ good s → v ≡ bad e → ⊥
 good-or-bad p q = let z : _≡_ {A = ℕ} 0 1 = cc in omega arith
 
-pub starts-run : (most : ℕ) (w : List ℕ) → Start most w → (e : Fault) → run most begin w ≡ stuck e → ⊥
+starts-run : (most : ℕ) (w : List ℕ) → Start most w → (e : Fault) → run most begin w ≡ stuck e → ⊥
 starts-run most w z e h =
     good-or-bad (sentence-verdict most (w ++ z .rest) (z .sentence))
     (ap verdict (run-append most begin w (z .rest) ∙ ap (λ q. run most q (z .rest)) h ∙ run-stuck most e (z .rest)))

@@ -26,7 +26,7 @@ use Rattle.polynomial.specs.Checks.{check-degree, check-leading, check-coeffici
 use Rattle.polynomial.specs.Moduli.{check-modulus}
 use Rattle.polynomial.proofs.Lowest.{none-offending}
 use Rattle.polynomial.proofs.Acceptance.{accepted-one, accepted-modulus}
-use Rattle.algebra.specs.Polynomial.{coef, limit, terms, degree, reduced, Same, Reduced}
+use Rattle.algebra.specs.Polynomial.{coef, limit, degree, reduced, Same, Reduced}
 use Rattle.algebra.proofs.Reduction.{reduced-reduced}
 use Rattle.built.proofs.Joining.{reduced-low, low-power, low-scaled}
 use Rattle.built.proofs.Singles.{single-low}
@@ -35,7 +35,7 @@ use borrow.Author.Tests.{le-ltb}
 use native.Mathlib.Nat.{le-refl}
 use native.Mathlib.Omega.{arith}
 use lib.Dec.{ltb, eqb}
-use lib.ListN.{length, take}
+use lib.ListN.{length}
 use Rattle.built.specs.Built.{Low}
 use Rattle.text.specs.Grammar.{Sum, Product, Factor, Base, term, negative, add, subtract, single, multiply, plain, raised, number, unknown, bracket, digits-value, most-deep}
 use Rattle.text.specs.Language.{Sentence, Start, FaultAt, Ninth}
@@ -45,14 +45,14 @@ use Rattle.text.specs.declared.Written.{Written}
 use Rattle.text.proofs.Spelling.{one-meaning}
 
 -- a fault is none of a text of the language
-pub fault-no-sentence : {w before : List ℕ} {byte : ℕ} → FaultAt w before byte → Sentence most-deep w → ⊥
+fault-no-sentence : {w before : List ℕ} {byte : ℕ} → FaultAt w before byte → Sentence most-deep w → ⊥
 fault-no-sentence {before = before} {byte} n z =
     n .fault (record {
       rest = n .after;
       sentence = record { tree = z .tree; fits = z .fits; spelled = z .spelled ∙ sym (n .whole) ∙ sym (append-assoc before (byte ∷ []) (n .after)) };
     })
 
-pub ninth-no-sentence : {w : List ℕ} → Ninth w → Sentence most-deep w → ⊥
+ninth-no-sentence : {w : List ℕ} → Ninth w → Sentence most-deep w → ⊥
 ninth-no-sentence n = fault-no-sentence (n .first)
 
 -- where two lists that are the same go apart

@@ -14,7 +14,7 @@ use native.Mathlib.Omega.{arith}
 use borrow.Author.Tests.{eq-eqb, ne-eqb, lt-ltb, le-ltb}
 use lib.ListN.{length, getD, set, take, drop}
 use lib.Seq.{sets, sets-eq, take-suc, length-take-le}
-use Rattle.algebra.specs.Polynomial.{coef, degree, terms, limit}
+use Rattle.algebra.specs.Polynomial.{coef, terms}
 use Rattle.refusal.specs.Refusal.{refusal}
 use Rattle.refusal.specs.declared.Refusal.{Refusal}
 use Rattle.refusal.specs.declared.Concerns.the-variants.{Neither}
@@ -25,7 +25,7 @@ use Rattle.built.proofs.Building.{measured-ends}
 use Rattle.digits.specs.Digits.{decimal, most-digits, Put}
 use Rattle.digits.proofs.Text.{put-append, put-most, put-byte, put-nothing}
 use Rattle.text.specs.Answers.{check-text}
-use Rattle.text.specs.Writing.{term-text, lower-term, lower, written, most-term, most-text}
+use Rattle.text.specs.Writing.{term-text, lower-term, lower, text-of, most-term, most-text}
 
 pub put-x : (b : List ℕ) (at : ℕ) → Put b at (42 ∷ 120 ∷ 94 ∷ []) 3 (set (set (set b at 42) (at + 1) 120) (at + 2) 94) (at + 3)
 put-x b at =
@@ -71,8 +71,8 @@ lowering-all {f} {n} {b} {y} {at} {d} {q} w e =
     let z : w .text ≡ lower n f = sym (append-nil (w .text)) ∙ ap (λ (j : ℕ). w .text ++ lower j f) (sym e) ∙ w .whole in
     put-most (omega arith) (rw z at (w .put))
 
-pub put-written : (f : List ℕ) {b x y : List ℕ} {n c p r : ℕ} → Measured n f → c ≡ coef f n → Put b 0 (term-text c n) most-term x p → Put x p (lower n f) ((1 + most-term) * n) y r → Put b 0 (written f) most-text y r
-unfolding written most-text most-term most-digits terms
+pub put-written : (f : List ℕ) {b x y : List ℕ} {n c p r : ℕ} → Measured n f → c ≡ coef f n → Put b 0 (term-text c n) most-term x p → Put x p (lower n f) ((1 + most-term) * n) y r → Put b 0 (text-of f) most-text y r
+unfolding text-of most-text most-term most-digits terms
 put-written f {n = n} d h one two = rw (← d .is, ← h) (put-most (omega (arith, measured-ends d .inside)) (put-append one two))
 
 -- ---- from the buffer into the area
@@ -100,10 +100,10 @@ module _ (m : ℕ) (f : List ℕ) (n : ℕ) where
   unfolding check-text
   text-refused p = rw p refl
 
-  pub text-short : check-one m f ≡ Answered → n < length (written f) → check-text m f n ≡ refusal Neither Area
+  pub text-short : check-one m f ≡ Answered → n < length (text-of f) → check-text m f n ≡ refusal Neither Area
   unfolding check-text
-  text-short p l = rw (p, lt-ltb n (length (written f)) l) refl
+  text-short p l = rw (p, lt-ltb n (length (text-of f)) l) refl
 
-  pub text-fits : check-one m f ≡ Answered → length (written f) ≤ n → check-text m f n ≡ Answered
+  pub text-fits : check-one m f ≡ Answered → length (text-of f) ≤ n → check-text m f n ≡ Answered
   unfolding check-text
-  text-fits p l = rw (p, le-ltb n (length (written f)) l) refl
+  text-fits p l = rw (p, le-ltb n (length (text-of f)) l) refl

@@ -14,7 +14,7 @@ use borrow.Author.Tests.{eqb-true, ltb-true, leb-true}
 use lib.Dec.{ltb, leb, eqb}
 use lib.ListN.{length, length-append}
 use Rattle.algebra.specs.Polynomial.{limit}
-use Rattle.text.specs.Grammar.{Sum, Product, Factor, plain, raised, number, unknown, bracket, spell, spell-product, spell-factor, spell-base, digits-value, digits-value-from, AllDigits, Digits, Fits, FitsProduct, FitsFactor, FitsBase, number-digits, most-power}
+use Rattle.text.specs.Grammar.{Sum, Product, Factor, plain, raised, number, unknown, bracket, spell, spell-product, spell-factor, spell-base, digits-value, digits-value-from, AllDigits, Decimal, Fits, FitsProduct, FitsFactor, FitsBase, number-digits, most-power}
 use Rattle.text.specs.Language.{Start}
 use Rattle.text.specs.States.{Before, nothing, minus, plus, less, Left, none, some, Frame, frame, Fault, State, begin, expect, caret, factor, stuck, fresh, to-sum, to-product, joined, timed, is-digit, opening, longer, powered, closed, step, run, good, verdict}
 
@@ -123,7 +123,7 @@ module _ {most : ℕ} {w : List ℕ} {st : List Frame} {f : Frame} where
         last = p .last;
       }
 
-one-digit : (b : ℕ) → 48 ≤ b → b ≤ 57 → Digits (b ∷ [])
+one-digit : (b : ℕ) → 48 ≤ b → b ≤ 57 → Decimal (b ∷ [])
 unfolding AllDigits
 one-digit b h g = record { digits = (h, g, tt); some = omega arith; few = omega arith }
 
@@ -136,7 +136,7 @@ unfolding AllDigits
 all-more [] b a h g = (h, g, tt)
 all-more (x ∷ c) b a h g = (a .0, a .1, all-more c b (a .2) h g)
 
-more-digits : (c : List ℕ) (b : ℕ) → Digits c → 48 ≤ b → b ≤ 57 → length c < 10 → Digits (c ++ (b ∷ []))
+more-digits : (c : List ℕ) (b : ℕ) → Decimal c → 48 ≤ b → b ≤ 57 → length c < 10 → Decimal (c ++ (b ∷ []))
 more-digits c b d h g l =
     record {
       digits = all-more c b (d .digits) h g;

@@ -19,7 +19,7 @@ use borrow.Author.Tests.{eqb-true, ne-eqb, lt-ltb, le-ltb, le-leb, lt-leb}
 use lib.Dec.{eqb}
 use lib.ListN.{length, drop, getD, length-append, drop-of-length-le}
 use lib.Seq.{drop-cons}
-use Rattle.algebra.specs.Polynomial.{limit, plus, times}
+use Rattle.algebra.specs.Polynomial.{limit, times}
 use Rattle.built.specs.declared.Built.{Built}
 use Rattle.built.specs.Built.{built, Joins}
 use Rattle.built.specs.Built as built-specs
@@ -31,13 +31,13 @@ use Rattle.text.specs.Grammar as grammar
 use Rattle.text.specs.Meaning.{meaning, Within}
 use Rattle.text.specs.States.{Before, nothing, minus, less, none, some, Frame, frame, Fault, spelling, deep, State, begin, expect, caret, factor, stuck, fresh, is-digit, longer, powered, step, run, at-product, at-sum, bad, verdict}
 use Rattle.text.specs.States as states
-use Rattle.text.specs.Reading.{Part, a-base, a-factor, a-product, a-sum, start, before-of, Only, Done, fault-number, misread, Sound, Fails, Reads, Counted, Uncounted, ended, other, long, Counts, Raises, Adds}
+use Rattle.text.specs.Reading.{Phrase, a-base, a-factor, a-product, a-sum, start, before-of, Only, Done, fault-number, misread, Sound, Fails, Reads, Counted, Uncounted, ended, other, long, Counts, CountsPower, Adds}
 use Rattle.text.proofs.Spelling.{run-append, run-stuck, product-times, sum-plus, sum-less, sum-close, number-more, power-more, number-run, raised-run, same-step}
 use Rattle.text.proofs.Reached.{by-cond, digit-bounds}
 
 -- ---- a byte, the end of the text
 
-pub run-at : (q : State) (s : List ℕ) (k : ℕ) → k < length s → run most-deep q (drop k s) ≡ run most-deep (step most-deep q (getD s k 0)) (drop (k + 1) s)
+run-at : (q : State) (s : List ℕ) (k : ℕ) → k < length s → run most-deep q (drop k s) ≡ run most-deep (step most-deep q (getD s k 0)) (drop (k + 1) s)
 unfolding run
 run-at q s k l = rw (add-one k, drop-cons s k 0 l) refl
 
@@ -59,7 +59,7 @@ not-zero : (e : Fault) → fault-number e ≡ 0 → ⊥
 not-zero spelling h = omega arith
 not-zero deep h = omega arith
 
-module _ {k j : Part} {m : ℕ} {s : List ℕ} {at d : ℕ} {r : Found} where
+module _ {k j : Phrase} {m : ℕ} {s : List ℕ} {at d : ℕ} {r : Found} where
   pub failed : (e : Fault) → r ≡ misread (fault-number e) → ((st : List Frame) (f : Frame) → length st ≡ d → verdict (run most-deep (start k st f) (drop at s)) ≡ bad e) → Reads k j m s at d r
   failed e n h = record { fine = λ z. absurd (not-zero e (sym (ap (λ (x : Found). x .fault) n) ∙ z)); fails = λ z. record { fault = e; is = n; says = h } }
 
@@ -70,7 +70,7 @@ module _ {k j : Part} {m : ℕ} {s : List ℕ} {at d : ℕ} {r : Found} where
   missed n z = record { fine = λ z. absurd (n z); fails = λ n. z }
 
 -- what a reader built has its degree beside it
-pub reads-sound : {k j : Part} {m : ℕ} {s : List ℕ} {at d : ℕ} {r : Found} → Reads k j m s at d r → Sound r
+pub reads-sound : {k j : Phrase} {m : ℕ} {s : List ℕ} {at d : ℕ} {r : Found} → Reads k j m s at d r → Sound r
 reads-sound {r = r} c = go (ℕ-discrete (r .fault) 0)
   where
     go : Dec (r .fault ≡ 0) → Sound r
@@ -245,10 +245,10 @@ module _ (m : ℕ) (s : List ℕ) (at d : ℕ) where
     unfolding step
     hatted st f e = c .leads st f e ∙ run-byte (factor st f (plain (c .tree))) (caret st f (c .tree)) s k 94 l b refl
 
-    pub factor-unraised : {r : Found} {n : Numeral} → r ≡ misread 1 → n .good ≡ false → Raises s (k + 1) n → Reads a-factor a-factor m s at d r
+    pub factor-unraised : {r : Found} {n : Numeral} → r ≡ misread 1 → n .good ≡ false → CountsPower s (k + 1) n → Reads a-factor a-factor m s at d r
     factor-unraised e g x = failed spelling e (λ st f z. ap verdict (hatted st f z) ∙ x .fails g st f (c .tree))
 
-    pub factor-raised : {n : Numeral} {w : Built} → 1 < m → n .good ≡ true → Raises s (k + 1) n → built-specs.Raises m (n .value) v w → Reads a-factor a-factor m s at d (record { fault = 0; next = n .next; built = w })
+    pub factor-raised : {n : Numeral} {w : Built} → 1 < m → n .good ≡ true → CountsPower s (k + 1) n → built-specs.Raises m (n .value) v w → Reads a-factor a-factor m s at d (record { fault = 0; next = n .next; built = w })
     unfolding meaning Within
     factor-raised {n} {w} two g x p =
         let e = x .fine g in
@@ -265,13 +265,13 @@ module _ (m : ℕ) (s : List ℕ) (at d : ℕ) where
 
 -- the digits of a power
 module _ (s : List ℕ) (at : ℕ) where
-  pub power-good : {n : Numeral} → n .good ≡ true → n .value ≤ limit → Counts s at n → Raises s at n
+  pub power-good : {n : Numeral} → n .good ≡ true → n .value ≤ limit → Counts s at n → CountsPower s at n
   power-good g l c = record { fine = λ z. c .fine z; low = λ z. l; fails = λ z. absurd (true≢false (sym g ∙ z)) }
 
   power-run : (st : List Frame) (f : Frame) (a : Base) (c rest : List ℕ) → drop at s ≡ c ++ rest → run most-deep (caret st f a) c ≡ stuck spelling → verdict (run most-deep (caret st f a) (drop at s)) ≡ bad spelling
   power-run st f a c rest t h = ap verdict (ap (run most-deep (caret st f a)) t ∙ run-append most-deep (caret st f a) c rest ∙ ap (λ q. run most-deep q rest) h ∙ run-stuck most-deep spelling rest)
 
-  pub power-over : {n r : Numeral} → n .good ≡ true → limit < n .value → r .good ≡ false → Counts s at n → Raises s at r
+  pub power-over : {n r : Numeral} → n .good ≡ true → limit < n .value → r .good ≡ false → Counts s at n → CountsPower s at r
   power-over {n} g l e c =
       let d = c .fine g in
       record {
@@ -289,7 +289,7 @@ module _ (s : List ℕ) (at : ℕ) where
   uncounted (other l h) st f a = run-fault (caret st f a) s at spelling l (caret-other st f a h)
   uncounted (long c rest d l t) st f a = power-run st f a c rest t (raised-bad st f a c d (omega arith) (inl l))
 
-  pub power-none : {n : Numeral} → n .good ≡ false → Counts s at n → Raises s at n
+  pub power-none : {n : Numeral} → n .good ≡ false → Counts s at n → CountsPower s at n
   power-none g c = record { fine = λ z. c .fine z; low = λ z. absurd (false≢true (sym g ∙ z)); fails = λ z. uncounted (c .fails z) }
 
 -- ---- products

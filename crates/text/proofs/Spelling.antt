@@ -6,7 +6,6 @@
 --   base-run, factor-run, product-run, sum-run     the spelling of a tree leads to the state after it
 --   one-meaning                               two trees with one spelling are one tree
 use mathlib.Core.Path.{_≡_, refl, sym, ap, _∙_}
-use mathlib.Core.Bool.{true}
 use mathlib.Core.List.{List, [], _∷_, _++_, append-assoc, append-nil}
 use Prim.Native.Nat.{ℕ, _+_, _*_, _-_, _≤_, _<_}
 use native.Mathlib.Omega.{arith}
@@ -14,8 +13,8 @@ use native.Mathlib.Nat.{le-refl, le-trans}
 use borrow.Author.Tests.{ne-eqb, lt-ltb, le-leb}
 use lib.ListN.{length, length-append}
 use Rattle.algebra.specs.Polynomial.{limit}
-use Rattle.text.specs.Grammar.{Sum, Product, Factor, Base, term, negative, add, subtract, single, multiply, plain, raised, number, unknown, bracket, spell, spell-product, spell-factor, spell-base, digits-value, digits-value-from, AllDigits, Digits, Fits, FitsProduct, FitsFactor, FitsBase}
-use Rattle.text.specs.States.{Before, nothing, minus, plus, less, none, some, Frame, frame, Fault, State, begin, expect, caret, factor, stuck, fresh, to-sum, is-digit, step, run, at-product, at-sum, good, verdict}
+use Rattle.text.specs.Grammar.{Sum, Product, Factor, Base, term, negative, add, subtract, single, multiply, plain, raised, number, unknown, bracket, spell, spell-product, spell-factor, spell-base, digits-value, digits-value-from, AllDigits, Decimal, Fits, FitsProduct, FitsFactor, FitsBase}
+use Rattle.text.specs.States.{Before, nothing, minus, plus, less, none, some, Frame, frame, Fault, State, begin, expect, caret, factor, stuck, fresh, to-sum, step, run, at-product, at-sum, good, verdict}
 
 pub run-append : (most : ℕ) (q : State) (a b : List ℕ) → run most q (a ++ b) ≡ run most (run most q a) b
 unfolding run
@@ -81,9 +80,6 @@ sum-verdict (subtract s (multiply p t)) = refl
 
 -- ---- digits
 
-pub digit-true : (b : ℕ) → 48 ≤ b → b ≤ 57 → is-digit b ≡ true
-digit-true b h g = simp (le-leb 48 b h, le-leb b 57 g)
-
 value-above : (v : ℕ) (c : List ℕ) → v ≤ digits-value-from v c
 unfolding digits-value-from
 value-above v [] = le-refl v
@@ -124,14 +120,14 @@ module _ (most : ℕ) (st : List Frame) (f : Frame) where
       ∙ power-run a e (c ++ (b ∷ [])) (d .2) (omega (arith, length-append c (b ∷ []))) w
       ∙ ap (λ (k : List ℕ). factor st f (raised a k)) (append-assoc c (b ∷ []) e)
 
-  pub number-run : (c : List ℕ) → Digits c → run most (expect st f) c ≡ factor st f (plain (number c))
+  pub number-run : (c : List ℕ) → Decimal c → run most (expect st f) c ≡ factor st f (plain (number c))
   unfolding run step AllDigits
   number-run [] d = absurd (omega (arith, d .some))
   number-run (b ∷ c) d =
       ap (λ q. run most q c) (simp (le-leb 48 b (d .digits .0), le-leb b 57 (d .digits .1)))
       ∙ digits-run c (b ∷ []) (d .digits .2) (omega (arith, d .few))
 
-  pub raised-run : (a : Base) (c : List ℕ) → Digits c → digits-value c ≤ limit → run most (caret st f a) c ≡ factor st f (raised a c)
+  pub raised-run : (a : Base) (c : List ℕ) → Decimal c → digits-value c ≤ limit → run most (caret st f a) c ≡ factor st f (raised a c)
   unfolding run step AllDigits
   raised-run a [] d v = absurd (omega (arith, d .some))
   raised-run a (b ∷ c) d v =
@@ -145,7 +141,7 @@ pub same-step : (most : ℕ) (st : List Frame) (b : ℕ) → (b ≡ 45 → ⊥) 
 unfolding step
 same-step most st b n = simp (ne-eqb b 45 n)
 
-same-start : (most : ℕ) (st : List Frame) (c : List ℕ) → Digits c → run most (expect st fresh) c ≡ run most (begin st) c
+same-start : (most : ℕ) (st : List Frame) (c : List ℕ) → Decimal c → run most (expect st fresh) c ≡ run most (begin st) c
 unfolding run AllDigits
 same-start most st [] d = absurd (omega (arith, d .some))
 same-start most st (b ∷ c) d = ap (λ q. run most q c) (sym (same-step most st b (λ e. omega (arith, d .digits .0))))

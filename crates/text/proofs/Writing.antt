@@ -25,19 +25,19 @@ use Rattle.algebra.proofs.Numbers.{table-ext}
 use Rattle.algebra.proofs.Reduction.{reduced-equal, reduced-reduced}
 use Rattle.polynomial.proofs.Acceptance.{accepted-modulus, accepted-one, degree-fits}
 use Rattle.built.specs.Built as built-specs
-use Rattle.built.proofs.Singles.{single-same, single-other, single-high, single-low, number-times, x-term, zero-low}
+use Rattle.built.proofs.Singles.{single-same, single-other, single-high, number-times, x-term, zero-low}
 use Rattle.built.proofs.Joining.{reduced-low}
 use Rattle.refusal.specs.declared.Outcome.the-variants.{Answered}
 use Rattle.polynomial.specs.declared.Answer.{Answer}
 use Rattle.polynomial.specs.Checks.{check-one, Accepted}
 use Rattle.digits.specs.Digits.{decimal, digits, most-digits, digit}
-use Rattle.text.specs.Grammar.{Sum, Product, term, add, single, multiply, plain, raised, number, unknown, spell, digits-value, digits-value-from, AllDigits, Digits, Fits, FitsProduct, most-deep}
+use Rattle.text.specs.Grammar.{Sum, Product, term, add, single, multiply, plain, raised, number, unknown, spell, digits-value, digits-value-from, AllDigits, Decimal, Fits, FitsProduct, most-deep}
 use Rattle.text.specs.Language.{Sentence}
 use Rattle.text.specs.Meaning.{meaning, meaning-product, Within, WithinProduct}
 use Rattle.text.specs.Answers.{Sized, ReadsText, check-text, WritesText, refused, wrote, checked}
 use Rattle.text.specs.declared.Written.{Written}
 use Rattle.refusal.proofs.Outcomes.{never, then-both}
-use Rattle.text.specs.Writing.{term-text, lower-term, lower, written, most-term}
+use Rattle.text.specs.Writing.{term-text, lower-term, lower, text-of, most-term}
 use Rattle.digits.proofs.Text.{tens, small, large}
 use Rattle.text.proofs.Reached.{all-more}
 use Rattle.text.proofs.Counting.{value-last}
@@ -51,18 +51,18 @@ abbrev ten-digits : ℕ
 ten-digits = tens most-digits
 
 -- the bytes, how many they are, and their number
-record Decimal (k n : ℕ) (c : List ℕ) : Type 0 where
+record DecimalOf (k n : ℕ) (c : List ℕ) : Type 0 where
   all : AllDigits c
   some : 1 ≤ length c
   few : length c ≤ k
   is : digits-value c ≡ n
 
-decimal-of : (k n : ℕ) → n < tens (suc k) → Decimal (suc k) n (digits (suc k) n)
+decimal-of : (k n : ℕ) → n < tens (suc k) → DecimalOf (suc k) n (digits (suc k) n)
 unfolding AllDigits digits-value digits-value-from
 decimal-of zero n h = rw (small zero n (omega arith)) (record { all = (omega arith, omega arith, tt); some = omega arith; few = omega arith; is = omega arith })
 decimal-of (suc k) n h = go (decimal-of k (n / 10) (omega arith)) (decLt n 10)
   where
-    go : Decimal (suc k) (n / 10) (digits (suc k) (n / 10)) → Dec (n < 10) → Decimal (suc (suc k)) n (digits (suc (suc k)) n)
+    go : DecimalOf (suc k) (n / 10) (digits (suc k) (n / 10)) → Dec (n < 10) → DecimalOf (suc (suc k)) n (digits (suc (suc k)) n)
     go d (yes l) = rw (small (suc k) n l) (record { all = (omega arith, omega arith, tt); some = omega arith; few = omega arith; is = omega arith })
     go d (no l) = rw (large (suc k) n (omega arith)) (record {
       all = all-more (digits (suc k) (n / 10)) (digit (n % 10)) (d .all) (omega arith) (omega arith);
@@ -71,11 +71,11 @@ decimal-of (suc k) n h = go (decimal-of k (n / 10) (omega arith)) (decLt n 10)
       is = value-last (digits (suc k) (n / 10)) (digit (n % 10)) ∙ omega (arith, d .is);
     })
 
-pub decimal-digits : (n : ℕ) → n < ten-digits → Digits (decimal n)
+decimal-digits : (n : ℕ) → n < ten-digits → Decimal (decimal n)
 unfolding decimal most-digits
 decimal-digits n h = let d = decimal-of 9 n h in record { digits = d .all; some = d .some; few = d .few }
 
-pub decimal-value : (n : ℕ) → n < ten-digits → digits-value (decimal n) ≡ n
+decimal-value : (n : ℕ) → n < ten-digits → digits-value (decimal n) ≡ n
 unfolding decimal most-digits
 decimal-value n h = decimal-of 9 n h .is
 
@@ -86,14 +86,14 @@ limit-fits i l = omega arith
 
 -- ---- the tree
 
-abbrev pub product-of : ℕ → ℕ → Product
+abbrev product-of : ℕ → ℕ → Product
 product-of c i = multiply (single (plain (number (decimal c)))) (raised unknown (decimal i))
 
-unfoldable pub tree-from : Sum → ℕ → List ℕ → Sum
+unfoldable tree-from : Sum → ℕ → List ℕ → Sum
 tree-from s zero f = s
 tree-from s (suc k) f = tree-from (cond (eqb (coef f k) 0) s (add s (product-of (coef f k) k))) k f
 
-unfoldable pub tree : List ℕ → Sum
+unfoldable tree : List ℕ → Sum
 tree f = tree-from (term (product-of (coef f (degree f)) (degree f))) (degree f) f
 
 -- a zero changes nothing
@@ -118,8 +118,8 @@ leading-text : (c i : ℕ) → spell (term (product-of c i)) ≡ term-text c i
 unfolding spell term-text
 leading-text c i = refl
 
-tree-spelled : (f : List ℕ) → spell (tree f) ≡ written f
-unfolding tree written
+tree-spelled : (f : List ℕ) → spell (tree f) ≡ text-of f
+unfolding tree text-of
 tree-spelled f = spell-from (degree f) (term (product-of (coef f (degree f)) (degree f))) f ∙ ap (λ (l : List ℕ). l ++ lower (degree f) f) (leading-text (coef f (degree f)) (degree f))
 
 -- ---- limits
@@ -256,8 +256,8 @@ unfolding lower most-term most-digits
 lower-size zero f t l = omega arith
 lower-size (suc k) f t l = omega (arith, length-append (lower-term (coef f k) k) (lower k f), lower-term-size (coef f k) k (t .small k) (omega arith) (ℕ-discrete (coef f k) 0), lower-size k f t (omega arith))
 
-written-sized : (f : List ℕ) → Tens f → degree f ≤ limit → Sized (written f)
-unfolding written most-term most-digits limit
+written-sized : (f : List ℕ) → Tens f → degree f ≤ limit → Sized (text-of f)
+unfolding text-of most-term most-digits limit
 written-sized f t l =
     let z = length-append (term-text (coef f (degree f)) (degree f)) (lower (degree f) f) in
     let a = term-size (coef f (degree f)) (degree f) (t .small (degree f)) l in
@@ -284,11 +284,11 @@ module _ {m : ℕ} {f : List ℕ} (ok : Accepted m f) where
       table-ext terms (λ i. coef (meaning (tree f) m) i % m) (λ i. coef f i % m) (λ i l. ap (λ (n : ℕ). n % m) (tree-means f m i tens-of (degree-fits ok)))
       ∙ reduced-equal (reduced-reduced m pos f) (ok .reduced) (reduced-low pos (zero-low (λ j g. List·getD-eq-default f 0 (omega (arith, ok .reduced .long)))))
 
-  pub sentence-of : Sentence most-deep (written f)
+  sentence-of : Sentence most-deep (text-of f)
   sentence-of = record { tree = tree f; fits = tree-fits f tens-of (degree-fits ok); spelled = tree-spelled f }
 
   -- reading the written text answers the polynomial
-  pub reads-back : {r : Answer} → ReadsText m (written f) r → r ≡ record { outcome = Answered; polynomial = f }
+  pub reads-back : {r : Answer} → ReadsText m (text-of f) r → r ≡ record { outcome = Answered; polynomial = f }
   unfolding sentence-of terms
   reads-back t =
       read-exactly (ok .modulus) (written-sized f tens-of (degree-fits ok)) sentence-of (tree-within f m tens-of (degree-fits ok)) t
@@ -305,5 +305,5 @@ unfolding check-text
 written-read-back l (refused p a e) o t = absurd (never (ap (λ (w : Written). w .outcome) e) o)
 written-read-back {m} {f} {xs} {ys} {x} l (wrote p a e) o t = reads-back (accepted-one l (then-both (check-one m f) _ p .0)) (rw back at t)
   where
-    back : take (x .length) ys ≡ written f
-    back = ap₂ take (ap (λ (w : Written). w .length) e) a ∙ take-append-le (length (written f)) (written f) (drop (length (written f)) xs) (N.le-refl (length (written f))) ∙ take-length (written f)
+    back : take (x .length) ys ≡ text-of f
+    back = ap₂ take (ap (λ (w : Written). w .length) e) a ∙ take-append-le (length (text-of f)) (text-of f) (drop (length (text-of f)) xs) (N.le-refl (length (text-of f))) ∙ take-length (text-of f)

@@ -26,7 +26,7 @@ use Rattle.text.specs.declared.Written.{Written}
 use Rattle.text.specs.Grammar.{most-deep}
 use Rattle.text.specs.Meaning.{meaning, Within}
 use Rattle.text.specs.Language.{Sentence, Ninth}
-use Rattle.text.specs.Writing.{written}
+use Rattle.text.specs.Writing.{text-of}
 
 -- the longest text
 abbrev pub most-bytes : ℕ
@@ -57,9 +57,9 @@ pub data ReadsText (m : ℕ) (w : List ℕ) (r : Answer) : Type 0 where
 
 -- 1 to 4 of f, then 11 if the area is shorter than the text
 unfoldable pub check-text : ℕ → List ℕ → ℕ → Outcome
-check-text m f n = check-one m f then refuse (ltb n (length (written f))) Neither Area
+check-text m f n = check-one m f then refuse (ltb n (length (text-of f))) Neither Area
 
 -- nothing is written on refusal, nor past the text
 pub data WritesText (m : ℕ) (f xs ys : List ℕ) (r : Written) : Type 0 where
   refused : {e : Refusal} → check-text m f (length xs) ≡ Refused e → ys ≡ xs → r ≡ record { outcome = Refused e; length = 0 } → WritesText m f xs ys r
-  wrote : check-text m f (length xs) ≡ Answered → ys ≡ written f ++ drop (length (written f)) xs → r ≡ record { outcome = Answered; length = length (written f) } → WritesText m f xs ys r
+  wrote : check-text m f (length xs) ≡ Answered → ys ≡ text-of f ++ drop (length (text-of f)) xs → r ≡ record { outcome = Answered; length = length (text-of f) } → WritesText m f xs ys r

@@ -4,7 +4,7 @@
 --   spell s                           the bytes of a sum; spell-product, -factor, -base of its parts
 --   digits-value c                    the number that decimal digits stand for
 --   number-digits, most-power, most-deep    the limits
---   Digits c                          1 to 10 bytes, each a digit
+--   Decimal c                          1 to 10 bytes, each a digit
 --   Fits s most d                     s keeps the limits where d brackets are open around it and `most` may be open at once
 use mathlib.Core.List.{List, [], _∷_, _++_}
 use Prim.Native.Nat.{ℕ, suc, _+_, _*_, _-_, _≤_, _<_}
@@ -112,7 +112,7 @@ AllDigits [] = Unit
 AllDigits (b ∷ c) = (zero-byte ≤ b) × (b ≤ nine-byte) × AllDigits c
 
 -- a number as it is written
-pub record Digits (c : List ℕ) : Type 0 where
+pub record Decimal (c : List ℕ) : Type 0 where
   pub digits : AllDigits c
   pub some : 1 ≤ length c
   pub few : length c ≤ number-digits
@@ -131,9 +131,9 @@ unfoldable mutual
 
   pub FitsFactor : Factor → ℕ → ℕ → Type 0
   FitsFactor (plain b) most d = FitsBase b most d
-  FitsFactor (raised b c) most d = FitsBase b most d × Digits c × (digits-value c ≤ most-power)
+  FitsFactor (raised b c) most d = FitsBase b most d × Decimal c × (digits-value c ≤ most-power)
 
   pub FitsBase : Base → ℕ → ℕ → Type 0
-  FitsBase (number c) most d = Digits c
+  FitsBase (number c) most d = Decimal c
   FitsBase unknown most d = Unit
   FitsBase (bracket s) most d = (d < most) × Fits s most (suc d)

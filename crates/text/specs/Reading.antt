@@ -1,6 +1,6 @@
 -- What each reader ensures, said by the states.
 --
---   Part                     what is read: a base, a factor, a product, a sum; Tree, start, past, means, Inside by it
+--   Phrase                   what is read: a base, a factor, a product, a sum; Tree, start, past, means, Inside by it
 --   Only j q b               where b does not go on what j reads, it is a fault
 --   Done k j m s at d n v    a tree of k was read from place `at` to n, and what follows does not go on as j; v holds its polynomial
 --   misread n                a fault, and nothing beside it
@@ -19,17 +19,17 @@ use Rattle.polynomial.specs.Checks.{Measured}
 use Rattle.built.specs.Built.{BuiltAs, Joins, above}
 use Rattle.text.specs.declared.Found.{Found}
 use Rattle.text.specs.declared.Numeral.{Numeral}
-use Rattle.text.specs.Grammar.{Sum, Product, Factor, Base, plain, digits-value, AllDigits, Digits, number-digits, most-deep, most-power, plus-byte, minus-byte, times-byte, power-byte, close-byte, zero-byte, nine-byte}
+use Rattle.text.specs.Grammar.{Sum, Product, Factor, Base, plain, digits-value, AllDigits, Decimal, number-digits, most-deep, most-power, plus-byte, minus-byte, times-byte, power-byte, close-byte, zero-byte, nine-byte}
 use Rattle.text.specs.Meaning.{meaning, meaning-product, meaning-factor, meaning-base, Within, WithinProduct, WithinFactor, WithinBase}
 use Rattle.text.specs.States.{Before, none, Frame, frame, Fault, spelling, deep, State, begin, expect, caret, factor, stuck, step, run, at-product, at-sum, bad, verdict}
 
-pub data Part : Type 0 where
-  a-base : Part
-  a-factor : Part
-  a-product : Part
-  a-sum : Part
+pub data Phrase : Type 0 where
+  a-base : Phrase
+  a-factor : Phrase
+  a-product : Phrase
+  a-sum : Phrase
 
-abbrev pub Tree : Part → Type 0
+abbrev pub Tree : Phrase → Type 0
 Tree a-base = Base
 Tree a-factor = Factor
 Tree a-product = Product
@@ -39,39 +39,39 @@ abbrev pub before-of : Frame → Before
 before-of (frame b l) = b
 
 -- the state in which it begins
-abbrev pub start : Part → List Frame → Frame → State
+abbrev pub start : Phrase → List Frame → Frame → State
 start a-base st f = expect st f
 start a-factor st f = expect st f
 start a-product st f = expect st (frame (before-of f) none)
 start a-sum st f = begin st
 
 -- the state after it
-abbrev pub past : (k : Part) → List Frame → Frame → Tree k → State
+abbrev pub past : (k : Phrase) → List Frame → Frame → Tree k → State
 past a-base st f a = factor st f (plain a)
 past a-factor st f t = factor st f t
 past a-product st f p = at-product st (before-of f) p
 past a-sum st f s = at-sum st s
 
-abbrev pub means : (k : Part) → Tree k → ℕ → List ℕ
+abbrev pub means : (k : Phrase) → Tree k → ℕ → List ℕ
 means a-base a m = meaning-base a m
 means a-factor t m = meaning-factor t m
 means a-product p m = meaning-product p m
 means a-sum s m = meaning s m
 
-abbrev pub Inside : (k : Part) → Tree k → ℕ → Type 0
+abbrev pub Inside : (k : Phrase) → Tree k → ℕ → Type 0
 Inside a-base a m = WithinBase a m
 Inside a-factor t m = WithinFactor t m
 Inside a-product p m = WithinProduct p m
 Inside a-sum s m = Within s m
 
 -- only ) goes on after a sum, + - ) after a product, * too after a factor, ^ too after a base
-abbrev pub Only : Part → State → ℕ → Type 0
+abbrev pub Only : Phrase → State → ℕ → Type 0
 Only a-sum q b = (b ≡ close-byte → ⊥) → step most-deep q b ≡ stuck spelling
 Only a-product q b = (b ≡ plus-byte → ⊥) → (b ≡ minus-byte → ⊥) → (b ≡ close-byte → ⊥) → step most-deep q b ≡ stuck spelling
 Only a-factor q b = (b ≡ times-byte → ⊥) → (b ≡ plus-byte → ⊥) → (b ≡ minus-byte → ⊥) → (b ≡ close-byte → ⊥) → step most-deep q b ≡ stuck spelling
 Only a-base q b = (b ≡ power-byte → ⊥) → (b ≡ times-byte → ⊥) → (b ≡ plus-byte → ⊥) → (b ≡ minus-byte → ⊥) → (b ≡ close-byte → ⊥) → step most-deep q b ≡ stuck spelling
 
-pub record Done (k j : Part) (m : ℕ) (s : List ℕ) (at d next : ℕ) (v : Built) : Type 0 where
+pub record Done (k j : Phrase) (m : ℕ) (s : List ℕ) (at d next : ℕ) (v : Built) : Type 0 where
   pub tree : Tree k
   pub ahead : at < next
   pub inside : next ≤ length s
@@ -88,7 +88,7 @@ fault-number deep = 2
 abbrev pub misread : ℕ → Found
 misread n = record { fault = n; next = 0; built = above }
 
-pub record Fails (k : Part) (s : List ℕ) (at d : ℕ) (r : Found) : Type 0 where
+pub record Fails (k : Phrase) (s : List ℕ) (at d : ℕ) (r : Found) : Type 0 where
   pub fault : Fault
   pub is : r ≡ misread (fault-number fault)
   pub says : (st : List Frame) (f : Frame) → length st ≡ d → verdict (run most-deep (start k st f) (drop at s)) ≡ bad fault
@@ -97,14 +97,14 @@ pub record Fails (k : Part) (s : List ℕ) (at d : ℕ) (r : Found) : Type 0 whe
 abbrev pub Sound : Found → Type 0
 Sound r = Measured (r .built .degree) (r .built .coefficients)
 
-pub record Reads (k j : Part) (m : ℕ) (s : List ℕ) (at d : ℕ) (r : Found) : Type 0 where
+pub record Reads (k j : Phrase) (m : ℕ) (s : List ℕ) (at d : ℕ) (r : Found) : Type 0 where
   pub fine : r .fault ≡ 0 → Done k j m s at d (r .next) (r .built)
   pub fails : (r .fault ≡ 0 → ⊥) → Fails k s at d r
 
 -- 1 to 10 digits from `at` to next, where no digit stands
 pub record Counted (s : List ℕ) (at next n : ℕ) : Type 0 where
   pub bytes : List ℕ
-  pub digits : Digits bytes
+  pub digits : Decimal bytes
   pub is : n ≡ digits-value bytes
   pub text : drop at s ≡ bytes ++ drop next s
   pub ahead : at < next
@@ -122,7 +122,7 @@ pub record Counts (s : List ℕ) (at : ℕ) (r : Numeral) : Type 0 where
   pub fails : r .good ≡ false → Uncounted s at
 
 -- the same for the digits of a power, after ^
-pub record Raises (s : List ℕ) (at : ℕ) (r : Numeral) : Type 0 where
+pub record CountsPower (s : List ℕ) (at : ℕ) (r : Numeral) : Type 0 where
   pub fine : r .good ≡ true → Counted s at (r .next) (r .value)
   pub low : r .good ≡ true → r .value ≤ most-power
   pub fails : r .good ≡ false → (st : List Frame) (f : Frame) (a : Base) → verdict (run most-deep (caret st f a) (drop at s)) ≡ bad spelling

@@ -2,7 +2,7 @@
 --
 --   term-text c i       c*x^i in plain decimals
 --   lower k f           + and the term, for each nonzero coefficient of f below x^k, highest first
---   written f           the term of the degree of f, and then the lower ones
+--   text-of f           the text of f: the term of its degree, and then the lower ones
 --   most-term, most-text    the most bytes of a term, and of a text
 use mathlib.Core.Bool.{cond}
 use mathlib.Core.List.{List, [], _∷_, _++_}
@@ -26,8 +26,8 @@ lower zero f = []
 lower (suc k) f = lower-term (coef f k) k ++ lower k f
 
 -- a polynomial that is not zero
-unfoldable pub written : List ℕ → List ℕ
-written f = term-text (coef f (degree f)) (degree f) ++ lower (degree f) f
+unfoldable pub text-of : List ℕ → List ℕ
+text-of f = term-text (coef f (degree f)) (degree f) ++ lower (degree f) f
 
 -- two numbers, and three bytes between them
 unfoldable pub most-term : ℕ

@@ -7,18 +7,17 @@ ghost use Prim.Native.Nat.{ℕ, _+_, _-_, _*_, _≤_, _<_};
 ghost use lib.ListN.{length, getD, take};
 ghost use lib.Seq.{sets};
 ghost use Rattle.algebra.specs.Number.{Modulus};
-ghost use Rattle.algebra.specs.Polynomial.{limit, terms};
+ghost use Rattle.algebra.specs.Polynomial.{limit};
 ghost use Rattle.refusal.specs.Refusal.{refusal};
-ghost use Rattle.refusal.specs.declared.Concerns.the-variants.{First};
 ghost use Rattle.refusal.specs.declared.Outcome.the-variants.{Answered};
 ghost use Rattle.polynomial.specs.Moduli.{modulus, check-modulus};
 ghost use Rattle.polynomial.specs.Checks.{Measured};
 ghost use Rattle.polynomial.specs.Answers.{nothing};
-ghost use Rattle.digits.specs.Digits.{most-digits, Put};
-ghost use Rattle.text.specs.Grammar.{most-deep, open-byte, close-byte, minus-byte, plus-byte, x-byte, times-byte, power-byte, zero-byte, nine-byte};
+ghost use Rattle.digits.specs.Digits.{Put};
+ghost use Rattle.text.specs.Grammar.{most-deep, open-byte, minus-byte, plus-byte, x-byte, times-byte, power-byte, zero-byte, nine-byte};
 ghost use Rattle.text.specs.Answers.{Sized, ReadsText, WritesText, checked as checked-of};
-ghost use Rattle.text.specs.Writing.{term-text, lower-term, lower, written as written-of, most-term, most-text};
-ghost use Rattle.text.specs.Reading.{Part, Done, Reads, Counts, Raises, Adds, Sound, misread};
+ghost use Rattle.text.specs.Writing.{term-text, lower-term, lower, text-of, most-term, most-text};
+ghost use Rattle.text.specs.Reading.{Phrase, Reads, Counts, CountsPower, Adds, Sound, misread};
 use built::Built;
 use polynomial::Answer;
 use polynomial::Coefficients;
@@ -122,7 +121,7 @@ fn number(s: &[u8], at: usize) -> Numeral
 
 // The power whose digits stand from `at` on.
 fn exponent(s: &[u8], at: usize) -> Numeral
-    ensures { λ r. ⌜ Raises (now (s .entry)) at r ⌝ }
+    ensures { λ r. ⌜ CountsPower (now (s .entry)) at r ⌝ }
 {
     let n = number(s, at);
     if !n.good {
@@ -154,7 +153,7 @@ fn failed(fault: u32) -> Found
 // A number, where neither a bracket nor x stands.
 fn numbered(s: &[u8], at: usize, m: u64) -> Found
     requires { ⌜ Modulus m × (getD (now s) at 0 ≡ open-byte → ⊥) × (getD (now s) at 0 ≡ x-byte → ⊥) ⌝ }
-    ensures { λ r. ⌜ ((d : ℕ) → Reads Part.a-base Part.a-base m (now (s .entry)) at d r) ⌝ }
+    ensures { λ r. ⌜ ((d : ℕ) → Reads Phrase.a-base Phrase.a-base m (now (s .entry)) at d r) ⌝ }
 {
     let n = number(s, at);
     if !n.good {
@@ -169,7 +168,7 @@ fn numbered(s: &[u8], at: usize, m: u64) -> Found
 
 // The closing bracket of the sum r that stands behind an open one.
 fn closed(s: &[u8], r: Found) -> Found
-    ensures { λ q. ⌜ ((m at d : ℕ) → at < length (now (s .entry)) → getD (now (s .entry)) at 0 ≡ open-byte → d < most-deep → Reads Part.a-sum Part.a-sum m (now (s .entry)) (at + 1) (d + 1) r → Reads Part.a-base Part.a-base m (now (s .entry)) at d q) ⌝ }
+    ensures { λ q. ⌜ ((m at d : ℕ) → at < length (now (s .entry)) → getD (now (s .entry)) at 0 ≡ open-byte → d < most-deep → Reads Phrase.a-sum Phrase.a-sum m (now (s .entry)) (at + 1) (d + 1) r → Reads Phrase.a-base Phrase.a-base m (now (s .entry)) at d q) ⌝ }
 {
     if r.fault != 0 {
         return r;
@@ -192,7 +191,7 @@ fn closed(s: &[u8], r: Found) -> Found
 // The power of the base r, if one is written.
 fn raised(s: &[u8], r: Found, m: u64) -> Found
     requires { ⌜ Modulus m × Sound r ⌝ }
-    ensures { λ q. ⌜ ((at d : ℕ) → Reads Part.a-base Part.a-base m (now (s .entry)) at d r → Reads Part.a-factor Part.a-factor m (now (s .entry)) at d q) ⌝ }
+    ensures { λ q. ⌜ ((at d : ℕ) → Reads Phrase.a-base Phrase.a-base m (now (s .entry)) at d r → Reads Phrase.a-factor Phrase.a-factor m (now (s .entry)) at d q) ⌝ }
 {
     if r.fault != 0 {
         return r;
@@ -230,7 +229,7 @@ fn added(a: Built, b: Built, sign: u8, m: u64) -> Built
 // The first product of a sum, with the minus that stands before it.
 fn negated(r: Found, m: u64) -> Found
     requires { ⌜ Modulus m × Sound r ⌝ }
-    ensures { λ q. ⌜ ((s : List ℕ) (at d : ℕ) → at < length s → getD s at 0 ≡ minus-byte → Reads Part.a-product Part.a-product m s (at + 1) d r → Reads Part.a-sum Part.a-product m s at d q) ⌝ }
+    ensures { λ q. ⌜ ((s : List ℕ) (at d : ℕ) → at < length s → getD s at 0 ≡ minus-byte → Reads Phrase.a-product Phrase.a-product m s (at + 1) d r → Reads Phrase.a-sum Phrase.a-product m s at d q) ⌝ }
 {
     if r.fault != 0 {
         return r;
@@ -274,7 +273,7 @@ fn is_minus(s: &[u8], at: usize) -> bool
 // A base: a sum in brackets, x, or a number.
 fn base(s: &[u8], at: usize, depth: usize, m: u64) -> Found
     requires { ⌜ Modulus m ⌝ }
-    ensures { λ r. ⌜ Reads Part.a-base Part.a-base m (now (s .entry)) at depth r ⌝ }
+    ensures { λ r. ⌜ Reads Phrase.a-base Phrase.a-base m (now (s .entry)) at depth r ⌝ }
 {
     if at >= s.len() {
         return failed(SPELLING);
@@ -299,7 +298,7 @@ fn base(s: &[u8], at: usize, depth: usize, m: u64) -> Found
 // A factor: a base with or without a power.
 fn factor(s: &[u8], at: usize, depth: usize, m: u64) -> Found
     requires { ⌜ Modulus m ⌝ }
-    ensures { λ r. ⌜ Reads Part.a-factor Part.a-factor m (now (s .entry)) at depth r ⌝ }
+    ensures { λ r. ⌜ Reads Phrase.a-factor Phrase.a-factor m (now (s .entry)) at depth r ⌝ }
 {
     raised(s, base(s, at, depth, m), m)
 }
@@ -307,7 +306,7 @@ fn factor(s: &[u8], at: usize, depth: usize, m: u64) -> Found
 // A product: factors with * between them.
 fn product(s: &[u8], at: usize, depth: usize, m: u64) -> Found
     requires { ⌜ Modulus m ⌝ }
-    ensures { λ r. ⌜ Reads Part.a-product Part.a-product m (now (s .entry)) at depth r ⌝ }
+    ensures { λ r. ⌜ Reads Phrase.a-product Phrase.a-product m (now (s .entry)) at depth r ⌝ }
 {
     let first = factor(s, at, depth, m);
     if first.fault != 0 {
@@ -341,7 +340,7 @@ fn product(s: &[u8], at: usize, depth: usize, m: u64) -> Found
 // The first product of a sum, which may have a minus.
 fn leading(s: &[u8], at: usize, depth: usize, m: u64) -> Found
     requires { ⌜ Modulus m ⌝ }
-    ensures { λ r. ⌜ Reads Part.a-sum Part.a-product m (now (s .entry)) at depth r ⌝ }
+    ensures { λ r. ⌜ Reads Phrase.a-sum Phrase.a-product m (now (s .entry)) at depth r ⌝ }
 {
     if is_minus(s, at) {
         return negated(product(s, at + 1, depth, m), m);
@@ -352,7 +351,7 @@ fn leading(s: &[u8], at: usize, depth: usize, m: u64) -> Found
 // A sum: products with + or - between them.
 fn sum(s: &[u8], at: usize, depth: usize, m: u64) -> Found
     requires { ⌜ Modulus m ⌝ }
-    ensures { λ r. ⌜ Reads Part.a-sum Part.a-sum m (now (s .entry)) at depth r ⌝ }
+    ensures { λ r. ⌜ Reads Phrase.a-sum Phrase.a-sum m (now (s .entry)) at depth r ⌝ }
 {
     let first = leading(s, at, depth, m);
     if first.fault != 0 {
@@ -413,7 +412,7 @@ fn checked(f: Coefficients, n: usize) -> Answer
 // What the sum r, read from the start of the text, comes to.
 fn judged(s: &[u8], r: Found) -> Answer
     requires { ⌜ Sound r ⌝ }
-    ensures { λ q. ⌜ ((m : ℕ) → check-modulus m ≡ Answered → Sized (now (s .entry)) → Reads Part.a-sum Part.a-sum m (now (s .entry)) 0 0 r → ReadsText m (now (s .entry)) q) ⌝ }
+    ensures { λ q. ⌜ ((m : ℕ) → check-modulus m ≡ Answered → Sized (now (s .entry)) → Reads Phrase.a-sum Phrase.a-sum m (now (s .entry)) 0 0 r → ReadsText m (now (s .entry)) q) ⌝ }
 {
     if r.fault == DEEP {
         return refused(Concerns::Neither, Reason::Depth);
@@ -514,7 +513,7 @@ fn put_lowers(f: &[u32], n: usize, out: &mut [u8], at: usize) -> usize
 // The text of f, of degree n.
 fn put_text(f: &[u32], n: usize, out: &mut [u8]) -> usize
     requires { ⌜ Measured n (now f) × (most-text ≤ length (now out)) ⌝ }
-    ensures { λ r. ⌜ Put (now (out .entry)) 0 (written-of (now (f .entry))) most-text (now (out .exit)) r ⌝ }
+    ensures { λ r. ⌜ Put (now (out .entry)) 0 (text-of (now (f .entry))) most-text (now (out .exit)) r ⌝ }
 {
     let at = put_term(f[n], n, out, 0);
     put_lowers(f, n, out, at)

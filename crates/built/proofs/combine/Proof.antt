@@ -1,8 +1,7 @@
 use native.Mathlib.Omega.{arith}
 use borrow.Author.Needs.{needs}
-use Rattle.algebra.specs.Polynomial.{limit}
 use Rattle.built.specs.Built.{left, right, both}
-use Rattle.built.proofs.Building.{measured-ends, larger-left, larger-right}
+use Rattle.built.proofs.Building.{larger-left, larger-right}
 use Rattle.built.proofs.Joining.{sum-ends, sum-settles}
 use Rattle.built.proofs.combine.Statement.{statement}
 use Rattle.built.proofs.combine.Tie as tie

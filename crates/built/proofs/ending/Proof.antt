@@ -4,7 +4,6 @@ use Prim.Native.Nat.{ℕ}
 use native.Mathlib.Omega.{arith}
 use borrow.Author.Needs.{needs}
 use Rattle.algebra.specs.Polynomial.{limit, terms}
-use Rattle.built.specs.declared.Built.{Built}
 use Rattle.built.specs.Built.{with-degree}
 use Rattle.built.proofs.Building.{ending-degree}
 use Rattle.built.proofs.ending.Statement.{statement}

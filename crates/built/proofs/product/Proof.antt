@@ -1,7 +1,5 @@
 use native.Mathlib.Omega.{arith}
-use mathlib.Core.Path.{ap, _∙_}
-use Prim.Native.Nat.{ℕ, _+_, _-_, _%_, _≤_}
-use native.Mathlib.Nat.{zero-mod}
+use Prim.Native.Nat.{_+_, _-_, _%_, _≤_}
 use Rattle.algebra.specs.Polynomial.{coef, times, terms, limit, reduced}
 use Rattle.built.proofs.Building as law
 use Rattle.built.proofs.product.Statement.{statement}
