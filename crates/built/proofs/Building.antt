@@ -4,10 +4,11 @@
 --   Front f r i                  r is f's first i numbers, and zeros after them
 --   front-none, front-more, front-all    before the first store, after one more, and where f ends
 --   ending-degree                the degree is found below where a polynomial ends
---   mixed-at, mixed-past         a place of x + k·y; where it ends
+--   mixed-at, mixed-past, mixed-all    a place of x + k·y; where it ends; all its places
 --   larger-left, larger-right    two polynomials end at the larger of their degrees
 --   product-zero, product-at     a place of a product: past the degrees, and within them
 --   product-places               the places that its sum asks for are there
+--   product-past, product-all    where it ends; all its places
 --   Searched m f k               above x^k there is nothing
 --   searched-none, searched-more, searched-low, not-low      a search for it from the top
 use mathlib.Core.Path.{_≡_, sym, ap, ap₂, _∙_}
@@ -19,7 +20,7 @@ use native.Mathlib.Decide.{decLt}
 use lib.ListN.{length, set, replicate, take, drop, length-replicate, List·getD-eq-default}
 use lib.Seq.{getD-set-other, getD-take, length-take-le}
 use Rattle.algebra.specs.Number.{sum, table}
-use Rattle.algebra.specs.Polynomial.{coef, plus, scaled, times, limit, terms, degree}
+use Rattle.algebra.specs.Polynomial.{coef, plus, scaled, times, limit, terms, reduced, degree}
 use Rattle.algebra.proofs.Coefficients.{coef-plus, coef-scaled, coef-times}
 use Rattle.algebra.proofs.Numbers.{sum-split, sum-zeros}
 use Rattle.algebra.proofs.Highest.{degree-above, degree-below, degree-same}
@@ -77,6 +78,11 @@ module _ (m : ℕ) (x y : List ℕ) (k : ℕ) where
   pub mixed-past : {d : ℕ} → Ends d x → Ends d y → (i : ℕ) → d < i → coef (plus x (scaled k y)) i % m ≡ 0
   mixed-past a b i l = ap (λ (n : ℕ). n % m) (coef-plus x (scaled k y) i ∙ ap₂ _+_ (a .past i l) (coef-scaled k y i ∙ ap (λ (n : ℕ). k * n) (b .past i l) ∙ N.mul-zero k)) ∙ N.zero-mod m
 
+  -- filled to where both end
+  pub mixed-all : {d i : ℕ} {c : List ℕ} → Ends d x → Ends d y → d < i → Front (λ j. coef (plus x (scaled k y)) j % m) c i → c ≡ reduced m (plus x (scaled k y))
+  unfolding reduced
+  mixed-all a b l f = front-all (λ j h t. mixed-past a b j (omega arith)) f
+
 -- two that end at their degrees end at the larger one
 module _ {n s d : ℕ} {x y : List ℕ} (a : Measured n x) (b : Measured s y) (e : d ≡ max n s) where
   pub larger-left : Ends d x
@@ -120,6 +126,11 @@ module _ (x y : List ℕ) (k : ℕ) where
 -- where the product or the limit ends
 pub product-past : (m : ℕ) {n s : ℕ} (x y : List ℕ) → Measured n x → Measured s y → (j : ℕ) → n + s < j → coef (times x y) j % m ≡ 0
 product-past m x y a b j l = ap (λ (n : ℕ). n % m) (product-zero x y j (omega (arith, a .is, b .is))) ∙ N.zero-mod m
+
+-- filled to where it ends
+pub product-all : (m : ℕ) {n s d i : ℕ} (x y : List ℕ) {c : List ℕ} → Measured n x → Measured s y → d ≡ min (n + s) limit → d < i → Front (λ j. coef (times x y) j % m) c i → c ≡ reduced m (times x y)
+unfolding reduced terms
+product-all m x y a b e l f = front-all (λ j h t. product-past m x y a b j (omega arith)) f
 
 -- one zero more
 pub zeros-more : (x : List ℕ) {i : ℕ} → ((j : ℕ) → j < i → coef x j ≡ 0) → coef x i ≡ 0 → (j : ℕ) → j < i + 1 → coef x j ≡ 0

@@ -3,7 +3,8 @@
 --   low-same, reduced-alike        polynomials that are the same modulo m are low together, and are held alike
 --   reduced-low                    a low polynomial is the same as it is held
 --   reduced-ends, sum-ends, product-ends     where what is held ends
---   sum-settles                    a sum of two
+--   held-built                     as it is held
+--   sum-low                        a sum is low
 --   Powered m f i v                the powers so far are low, and v is the i-th
 --   powered-none, powered-more, powered-high, powered-all     a power, a factor at a time
 --   shifts-powers                  the power of a single term
@@ -75,10 +76,10 @@ module _ {m : ℕ} {f : List ℕ} {v : Built} where
   settles-same s (low l e) = low (low-same s l) (e ∙ built-same s)
   settles-same s (high n e) = high (λ l. n (low-same (same-sym s) l)) e
 
--- the coefficients as they were filled
-pub held-low : (m : ℕ) (f : List ℕ) {c : List ℕ} {v : Built} → c ≡ reduced m f → v ≡ with-degree c → v ≡ built m f
-unfolding built
-held-low m f e is = is ∙ ap with-degree e
+-- the coefficients as they were filled, and their degree
+pub held-built : (m : ℕ) (f : List ℕ) {c : List ℕ} {d : ℕ} → c ≡ reduced m f → d ≡ degree c → record { over = false; degree = d; coefficients = c } ≡ built m f
+unfolding built with-degree
+held-built m f {c} e is = ap (λ (n : ℕ). record { over = false; degree = n; coefficients = c }) is ∙ ap with-degree e
 
 -- where it ends
 reduced-ends : (m : ℕ) {d : ℕ} (f : List ℕ) {c : List ℕ} → 0 < m → d ≤ limit → ((i : ℕ) → d < i → i ≤ limit → coef f i % m ≡ 0) → c ≡ reduced m f → Ends d c
@@ -93,8 +94,8 @@ reduced-ends m {d} f {c} pos l z e = rw e (record { long = reduced-reduced m pos
 pub sum-ends : (m k : ℕ) {d : ℕ} {x y c : List ℕ} → 0 < m → Ends d x → Ends d y → c ≡ reduced m (plus x (scaled k y)) → Ends d c
 sum-ends m k {d} {x} {y} pos a b e = reduced-ends m (plus x (scaled k y)) pos (a .inside) (λ i l h. mixed-past m x y k a b i l) e
 
-pub sum-settles : (m k : ℕ) {d : ℕ} {x y c : List ℕ} {v : Built} → Ends d x → Ends d y → c ≡ reduced m (plus x (scaled k y)) → v ≡ with-degree c → Settles m (plus x (scaled k y)) v
-sum-settles m k {d} {x} {y} a b e is = low (record { above = λ i h. mixed-past m x y k a b i (omega (arith, a .inside)) }) (held-low m (plus x (scaled k y)) e is)
+pub sum-low : (m k : ℕ) {d : ℕ} {x y : List ℕ} → Ends d x → Ends d y → Low m (plus x (scaled k y))
+sum-low m k {d} {x} {y} a b = record { above = λ i h. mixed-past m x y k a b i (omega (arith, a .inside)) }
 
 pub product-ends : (m : ℕ) {n s d : ℕ} {x y c : List ℕ} → 0 < m → Measured n x → Measured s y → d ≡ min (n + s) limit → c ≡ reduced m (times x y) → Ends d c
 product-ends m {x = x} {y} pos a b o e = reduced-ends m (times x y) pos (omega arith) (λ i l h. product-past m x y a b i (omega arith)) e

@@ -4,10 +4,10 @@ ghost use mathlib.Core.Path.{_≡_};
 ghost use mathlib.Core.Bool.{true, false};
 ghost use Prim.Native.Nat.{_+_, _-_, _*_, _%_, _≤_, min, max};
 ghost use Rattle.algebra.specs.Number.{Modulus};
-ghost use Rattle.algebra.specs.Polynomial.{coef, plus, scaled, times, limit, reduced};
+ghost use Rattle.algebra.specs.Polynomial.{coef, plus, scaled, times, limit, degree as degree-of};
 ghost use Rattle.polynomial.specs.Checks.{Measured};
 ghost use Rattle.composition.specs.Composition.{Ends};
-ghost use Rattle.built.specs.Built.{single as single-of, Low, with-degree, built as built-of, above as above-of, Settles, Joins, Shifts, Powers, Raises};
+ghost use Rattle.built.specs.Built.{single as single-of, Low, built as built-of, above as above-of, Settles, Joins, Shifts, Powers, Raises};
 use polynomial::Coefficients;
 use polynomial::LIMIT;
 use polynomial::TERMS;
@@ -29,18 +29,13 @@ pub fn above() -> Built
     }
 }
 
-// These coefficients, which end at x^top, with their degree.
-fn ending(c: Coefficients, top: usize) -> Built
-    requires { ⌜ Ends top c ⌝ }
-    ensures { λ r. ⌜ r ≡ with-degree c ⌝ }
+// The degree of c, which ends at x^top.
+fn degree_to(c: &[u32], top: usize) -> usize
+    requires { ⌜ Ends top (now c) ⌝ }
+    ensures { λ r. ⌜ r ≡ degree-of (now (c .entry)) ⌝ }
 {
     let end = top + 1;
-    let degree = polynomial::degree(&c[0..end]);
-    Built {
-        over: false,
-        degree,
-        coefficients: c,
-    }
+    polynomial::degree(&c[0..end])
 }
 
 // c * x^k.
@@ -50,7 +45,12 @@ pub fn single(c: u64, k: usize, m: u64) -> Built
 {
     let mut x = [0; TERMS];
     x[k] = (c % m) as u32;
-    ending(x, k)
+    let degree = degree_to(&x, k);
+    Built {
+        over: false,
+        degree,
+        coefficients: x,
+    }
 }
 
 // The larger of two numbers.
@@ -61,16 +61,21 @@ fn larger(a: usize, b: usize) -> usize
 }
 
 // x + k * y, of two polynomials that end at x^top, and a number.
-fn mixed(x: &[u32], y: &[u32], top: usize, k: u32, m: u64) -> Coefficients
+fn mixed(x: &[u32], y: &[u32], top: usize, k: u32, m: u64) -> Built
     requires { ⌜ Modulus m × Ends top (now x) × Ends top (now y) ⌝ }
-    ensures { λ r. ⌜ r ≡ reduced m (plus (now (x .entry)) (scaled k (now (y .entry)))) ⌝ }
+    ensures { λ r. ⌜ r ≡ built-of m (plus (now (x .entry)) (scaled k (now (y .entry)))) ⌝ }
 {
     let mut c = [0; TERMS];
     let end = top + 1;
     for i in 0..end {
         c[i] = residue::two_products(1, x[i], k, y[i], m);
     }
-    c
+    let degree = degree_to(&c, top);
+    Built {
+        over: false,
+        degree,
+        coefficients: c,
+    }
 }
 
 // a + k * b.
@@ -84,10 +89,8 @@ pub fn combine(a: Built, b: Built, k: u32, m: u64) -> Built
     if b.over {
         return above();
     }
-    let x = a.coefficients;
-    let y = b.coefficients;
     let top = larger(a.degree, b.degree);
-    ending(mixed(&x, &y, top, k, m), top)
+    mixed(&a.coefficients, &b.coefficients, top, k, m)
 }
 
 // The larger of k - s and 0.
@@ -122,16 +125,21 @@ fn spills(x: &[u32], n: usize, y: &[u32], s: usize, m: u64) -> bool
 }
 
 // The product up to x^top, where it ends, or the limit does.
-fn product(x: &[u32], n: usize, y: &[u32], s: usize, top: usize, m: u64) -> Coefficients
+fn product(x: &[u32], n: usize, y: &[u32], s: usize, top: usize, m: u64) -> Built
     requires { ⌜ Modulus m × Measured n (now x) × Measured s (now y) × (top ≡ min (n + s) limit) ⌝ }
-    ensures { λ r. ⌜ r ≡ reduced m (times (now (x .entry)) (now (y .entry))) ⌝ }
+    ensures { λ r. ⌜ r ≡ built-of m (times (now (x .entry)) (now (y .entry))) ⌝ }
 {
     let mut c = [0; TERMS];
     let end = top + 1;
     for k in 0..end {
         c[k] = coefficient(x, n, y, s, k, m);
     }
-    c
+    let degree = degree_to(&c, top);
+    Built {
+        over: false,
+        degree,
+        coefficients: c,
+    }
 }
 
 // x * y, of degrees n and s.
@@ -142,8 +150,7 @@ fn whole(x: &[u32], n: usize, y: &[u32], s: usize, m: u64) -> Built
     if spills(x, n, y, s, m) {
         return above();
     }
-    let top = polynomial::smaller(n + s, LIMIT);
-    ending(product(x, n, y, s, top, m), top)
+    product(x, n, y, s, polynomial::smaller(n + s, LIMIT), m)
 }
 
 // a * b.
@@ -157,9 +164,7 @@ pub fn multiply(a: Built, b: Built, m: u64) -> Built
     if b.over {
         return above();
     }
-    let x = a.coefficients;
-    let y = b.coefficients;
-    whole(&x, a.degree, &y, b.degree, m)
+    whole(&a.coefficients, a.degree, &b.coefficients, b.degree, m)
 }
 
 // Whether x, of degree n, is a single term whose p-th power is within the limit.

@@ -1,8 +1,7 @@
-use native.Mathlib.Omega.{arith}
 use borrow.Author.Needs.{needs}
-use Rattle.built.specs.Built.{left, right, both}
+use Rattle.built.specs.Built.{left, right, both, low}
 use Rattle.built.proofs.Building.{larger-left, larger-right}
-use Rattle.built.proofs.Joining.{sum-ends, sum-settles}
+use Rattle.built.proofs.Joining.{sum-low}
 use Rattle.built.proofs.combine.Statement.{statement}
 use Rattle.built.proofs.combine.Tie as tie
 
@@ -14,22 +13,15 @@ returns-2 c = right (c .before .if2 .taken) (c .above2 .ensures)
 
 mixed-requires : tie.Need-mixed-requires
 mixed-requires c κs =
-    let p = c .before .before .before .before .before .before .before .pre in
-    let e = c .before .before .larger .ensures in
+    let p = c .before .before .before .before .before .before .before .before .before .pre in
+    let e = c .before .before .before .before .before .before .larger .ensures in
     (p .0, larger-left (p .1) (p .2) e, larger-right (p .1) (p .2) e)
-
-ending-requires : tie.Need-ending-requires
-ending-requires c κs =
-    let p = c .before .before .before .before .before .before .before .before .pre in
-    let e = c .before .before .before .larger .ensures in
-    sum-ends _ _ (omega (arith, p .0)) (larger-left (p .1) (p .2) e) (larger-right (p .1) (p .2) e) (c .mixed .ensures)
 
 returns-3 : tie.Need-returns-3
 returns-3 c =
-    let p = c .before .before .before .before .before .before .before .before .before .pre in
-    let e = c .before .before .before .before .larger .ensures in
-    both (c .before .before .before .before .before .before .before .before .if1 .left) (c .before .before .before .before .before .before .before .if2 .left)
-    (sum-settles _ _ (larger-left (p .1) (p .2) e) (larger-right (p .1) (p .2) e) (c .before .mixed .ensures) (c .ending .ensures))
+    let p = c .before .before .before .before .before .before .before .before .before .before .pre in
+    let e = c .before .before .before .before .before .before .before .larger .ensures in
+    both (c .before .before .before .before .before .before .before .before .before .if1 .left) (c .before .before .before .before .before .before .before .before .if2 .left) (low (sum-low _ _ (larger-left (p .1) (p .2) e) (larger-right (p .1) (p .2) e)) (c .mixed .ensures))
 
 pub combine-spec : {M : Type 1} → statement M
 combine-spec =
@@ -40,8 +32,5 @@ combine-spec =
     (λ c κs. search needs)
     returns-2
     (λ c κs. search needs)
-    (λ c. search needs)
-    (λ c. search needs)
     mixed-requires
-    ending-requires
     returns-3)

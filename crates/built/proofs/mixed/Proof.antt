@@ -1,7 +1,9 @@
-use native.Mathlib.Omega.{arith}
+use mathlib.Core.Path.{sym}
 use Prim.Native.Nat.{_+_, _-_, _%_, _≤_}
-use Rattle.algebra.specs.Polynomial.{coef, plus, scaled, terms, limit, reduced}
+use native.Mathlib.Omega.{arith}
+use Rattle.algebra.specs.Polynomial.{coef, plus, scaled, terms, limit}
 use Rattle.built.proofs.Building as law
+use Rattle.built.proofs.Joining.{held-built, sum-ends}
 use Rattle.built.proofs.mixed.Statement.{statement}
 use Rattle.built.proofs.mixed.Tie as tie
 
@@ -23,11 +25,15 @@ loop-again : tie.Need-loop-again Inv-loop μ-loop
 unfolding terms limit
 loop-again c = (omega arith, law.front-more (omega arith) (law.mixed-at _ _ _ _ _ _ (c .two-products .ensures)) (c .before .before .before .before .loop .inv .1))
 
+slice-aggregate-degree-to : tie.Need-slice-aggregate-degree-to Inv-loop μ-loop
+unfolding terms limit
+slice-aggregate-degree-to c = sym (c .before .before .loop .inv .1 .filled .long)
+
+degree-to-requires : tie.Need-degree-to-requires Inv-loop μ-loop
+degree-to-requires c κs = let p = c .before .before .before .before .before .pre in sum-ends _ _ (omega (arith, p .0)) (p .1) (p .2) (law.mixed-all _ _ _ _ (p .1) (p .2) (omega arith) (c .before .before .loop .inv .1))
+
 returns : tie.Need-returns Inv-loop μ-loop
-unfolding reduced
-returns c =
-    let p = c .before .before .before .before .pre in
-    law.front-all (λ j a b. law.mixed-past _ _ _ _ (p .1) (p .2) j (omega arith)) (c .before .loop .inv .1)
+returns c = let p = c .before .before .before .before .before .before .pre in held-built _ _ (law.mixed-all _ _ _ _ (p .1) (p .2) (omega arith) (c .before .before .before .loop .inv .1)) (c .degree-to .ensures)
 
 pub mixed-spec : {M : Type 1} → statement M
 unfolding terms limit
@@ -48,4 +54,6 @@ mixed-spec =
     (λ c. omega arith)
     (λ c. omega arith)
     loop-again
+    slice-aggregate-degree-to
+    degree-to-requires
     returns)

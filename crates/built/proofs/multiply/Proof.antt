@@ -10,7 +10,7 @@ returns-2 : tie.Need-returns-2
 returns-2 c = right (c .before .if2 .taken) (c .above2 .ensures)
 
 returns-3 : tie.Need-returns-3
-returns-3 c = both (c .before .before .before .before .before .before .if1 .left) (c .before .before .before .before .before .if2 .left) (c .whole .ensures)
+returns-3 c = both (c .before .before .before .before .before .before .before .before .if1 .left) (c .before .before .before .before .before .before .before .if2 .left) (c .whole .ensures)
 
 pub multiply-spec : {M : Type 1} → statement M
 multiply-spec =
@@ -20,7 +20,5 @@ multiply-spec =
     returns
     (λ c κs. search needs)
     returns-2
-    (λ c. search needs)
-    (λ c. search needs)
     (λ c κs. search needs)
     returns-3)

@@ -1,7 +1,9 @@
-use native.Mathlib.Omega.{arith}
+use mathlib.Core.Path.{sym}
 use Prim.Native.Nat.{_+_, _-_, _%_, _≤_}
-use Rattle.algebra.specs.Polynomial.{coef, times, terms, limit, reduced}
+use native.Mathlib.Omega.{arith}
+use Rattle.algebra.specs.Polynomial.{coef, times, terms, limit}
 use Rattle.built.proofs.Building as law
+use Rattle.built.proofs.Joining.{held-built, product-ends}
 use Rattle.built.proofs.product.Statement.{statement}
 use Rattle.built.proofs.product.Tie as tie
 
@@ -26,11 +28,15 @@ loop-again : tie.Need-loop-again Inv-loop μ-loop
 unfolding terms limit
 loop-again c = (omega arith, law.front-more (omega arith) (c .coefficient .ensures) (c .before .before .loop .inv .1))
 
+slice-aggregate-degree-to : tie.Need-slice-aggregate-degree-to Inv-loop μ-loop
+unfolding terms limit
+slice-aggregate-degree-to c = sym (c .before .before .loop .inv .1 .filled .long)
+
+degree-to-requires : tie.Need-degree-to-requires Inv-loop μ-loop
+degree-to-requires c κs = let p = c .before .before .before .before .before .pre in product-ends _ (omega (arith, p .0)) (p .1) (p .2) (p .3) (law.product-all _ _ _ (p .1) (p .2) (p .3) (omega arith) (c .before .before .loop .inv .1))
+
 returns : tie.Need-returns Inv-loop μ-loop
-unfolding reduced terms
-returns c =
-    let p = c .before .before .before .before .pre in
-    law.front-all (λ j a b. law.product-past _ _ _ (p .1) (p .2) j (omega arith)) (c .before .loop .inv .1)
+returns c = let p = c .before .before .before .before .before .before .pre in held-built _ _ (law.product-all _ _ _ (p .1) (p .2) (p .3) (omega arith) (c .before .before .before .loop .inv .1)) (c .degree-to .ensures)
 
 pub product-spec : {M : Type 1} → statement M
 unfolding terms limit
@@ -47,4 +53,6 @@ product-spec =
     (λ c. omega arith)
     (λ c. omega arith)
     loop-again
+    slice-aggregate-degree-to
+    degree-to-requires
     returns)

@@ -3,7 +3,6 @@ use borrow.Author.Needs.{needs}
 use Rattle.algebra.specs.Polynomial.{limit}
 use Rattle.built.specs.Built.{low, high}
 use Rattle.built.proofs.Building.{measured-ends}
-use Rattle.built.proofs.Joining.{held-low, product-ends}
 use Rattle.built.proofs.whole.Statement.{statement}
 use Rattle.built.proofs.whole.Tie as tie
 
@@ -18,12 +17,8 @@ product-requires : tie.Need-product-requires
 unfolding limit
 product-requires c κs = let p = c .before .before .before .before .before .pre in (p .0, p .1, p .2, c .smaller .ensures)
 
-ending-requires : tie.Need-ending-requires
-unfolding limit
-ending-requires c κs = let p = c .before .before .before .before .before .before .pre in product-ends _ (omega (arith, p .0)) (p .1) (p .2) (c .before .smaller .ensures) (c .product .ensures)
-
 returns-2 : tie.Need-returns-2
-returns-2 c = low (c .before .before .before .before .spills .ensures .0 (c .before .before .before .if1 .left)) (held-low _ _ (c .before .product .ensures) (c .ending .ensures))
+returns-2 c = low (c .before .before .before .spills .ensures .0 (c .before .before .if1 .left)) (c .product .ensures)
 
 pub whole-spec : {M : Type 1} → statement M
 whole-spec =
@@ -35,5 +30,4 @@ whole-spec =
     add-smaller
     (λ c κs. search needs)
     product-requires
-    ending-requires
     returns-2)
