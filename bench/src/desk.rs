@@ -56,4 +56,12 @@ extern "C" {
         count: usize,
         numbers: *mut [usize; 2],
     ) -> Refused;
+    pub fn desk_read_text(m: u32, text: *const u8, count: usize, f: *mut Polynomial) -> Refused;
+    pub fn desk_write_text(
+        m: u32,
+        f: *const Polynomial,
+        area: *mut u8,
+        count: usize,
+        length: *mut usize,
+    ) -> Refused;
 }

@@ -12,8 +12,10 @@ mod listing;
 mod plain;
 mod residue;
 mod split;
+mod text;
 mod timing;
 mod turns;
+mod typed;
 
 fn main() {
     let words: Vec<String> = std::env::args().skip(1).collect();
@@ -34,5 +36,6 @@ fn beside_plain() {
     compose::run();
     change::run();
     chains::run();
+    text::run();
     listing::run();
 }

@@ -110,6 +110,19 @@ pub fn multiply<M: Modulus>(a: u32, b: u32, m: M) -> u32 {
     m.residue(a as u64 * b as u64)
 }
 
+/// a^n by squaring.
+pub fn power<M: Modulus>(a: u32, n: usize, m: M) -> u32 {
+    let (mut result, mut square, mut left) = (m.residue(1), a, n);
+    while left != 0 {
+        if left % 2 == 1 {
+            result = multiply(result, square, m);
+        }
+        square = multiply(square, square, m);
+        left /= 2;
+    }
+    result
+}
+
 pub fn two_products<M: Modulus>(a: u32, x: u32, b: u32, y: u32, m: M) -> u32 {
     let mut w = M::Sum::default();
     M::add(&mut w, a, x);
@@ -160,7 +173,7 @@ pub fn binomials() -> Vec<u64> {
     table
 }
 
-pub fn degree(f: &Polynomial) -> usize {
+pub fn degree(f: &[u32]) -> usize {
     f.iter().rposition(|&c| c != 0).unwrap_or(0)
 }
 

@@ -1,4 +1,4 @@
-use crate::plain::{invert as plain_invert, multiply, Below, Modulus, Words};
+use crate::plain::{invert as plain_invert, power as plain_power, Below, Modulus, Words};
 use crate::timing::{beside, Random};
 
 const MOST: u64 = 1 << 32;
@@ -39,15 +39,7 @@ fn power<M: Modulus>(a: u32, n: usize, m: M) -> u32 {
     if m.number() == 0 || MOST < m.number() {
         return 0;
     }
-    let (mut result, mut square, mut left) = (m.residue(1), a, n);
-    while left != 0 {
-        if left % 2 == 1 {
-            result = multiply(result, square, m);
-        }
-        square = multiply(square, square, m);
-        left /= 2;
-    }
-    result
+    plain_power(a, n, m)
 }
 
 #[inline(never)]
