@@ -3,14 +3,11 @@
 use crate::desk::{desk_read_text, desk_write_text};
 use crate::plain::{modulus, Polynomial, TERMS};
 use crate::split::monic;
-use crate::timing::{at, beside, by_turns, head, Random};
+use crate::timing::{at, beside, by_turns, head, row, Random};
 use crate::typed::{build, read, write};
 use std::hint::black_box;
 
 const BYTES: usize = 8192;
-
-/// A long text takes a second or two: few turns.
-const TURNS: usize = 3;
 
 const MOST: u32 = 2147483647;
 
@@ -67,18 +64,17 @@ fn reads(label: &str, calls: usize, m: u32, text: &str) {
     );
 }
 
-/// The same of a long text, in milliseconds.
-fn reads_long(label: &str, m: u32, text: &str) {
+/// The same of a text that takes milliseconds, by fewer turns.
+fn reads_long(label: &str, turns: usize, m: u32, text: &str) {
     let text = compared(label, m, text);
     let times = by_turns(
         label,
-        TURNS,
+        turns,
         1,
         &mut |_| witness(desk_read(m, black_box(text.as_bytes()))),
         &mut |_| witness(read(m, black_box(text.as_bytes()))),
     );
-    let [a, b] = times.map(|t| t / 1e6);
-    println!("{label:<52}{a:>12.1}{b:>12.1}{:>8.2}", a / b);
+    row(label, times.map(|t| t / 1e6));
 }
 
 fn writes(label: &str, m: u32, f: &Polynomial) {
@@ -120,10 +116,10 @@ fn terms(random: &mut Random) -> String {
     format!("{}+{}", terms.join("+"), number())
 }
 
-/// As many of the text as there is room for, and for the term that `answered` may put before it.
-fn joined(text: &str, by: &str) -> String {
+/// The text as often as there is room for it and for the term that `answered` may put before it, with * between.
+fn joined(text: &str) -> String {
     let room = BYTES - "4294967296*x^126+".len();
-    vec![text; (room + by.len()) / (text.len() + by.len())].join(by)
+    vec![text; (room + 1) / (text.len() + 1)].join("*")
 }
 
 /// A sum in brackets to a power, that in brackets to the same power, and so on.
@@ -142,26 +138,34 @@ fn readers(random: &mut Random, m: u32) {
     for text in ["((((x+1)^2+x)^3+x)^3+x)^7", "(x+1)^126", "(x^2+x+1)^63"] {
         reads(text, 5, m, text);
     }
-    reads("1^126*1^126*.., 1,362 factors", 1, m, &joined("1^126", "*"));
+    reads("1^126*1^126*.., 1,362 factors", 1, m, &joined("1^126"));
 }
 
-/// Powers and powers of powers, joined by *. Since c^2 = 0 modulo m, (1 + c·D)^k = 1 + k·c·D: none goes above the limit.
+/// A sum 1 + c·D with c^2 = 0 modulo m, the modulus, the power, and how deep: (1 + c·D)^k = 1 + k·c·D does not go above the limit.
 const LONG: [(&str, u32, usize, usize); 7] = [
     ("2*x^126+1", 2 * 2, 126, 1),
     ("2*x^126+1", 2 * 2, 125, 8),
     ("97*x^126+1", 97 * 97, 126, 8),
     ("46337*(x^2+x+1)^63+1", 46337 * 46337, 125, 7),
-    ("7^6*(x+1)^126+1", 1977326743, 125, 7), // modulo 7^11
+    ("7^6*(x+1)^126+1", 7u32.pow(11), 125, 7),
     ("65536*x^126+1", 0, 125, 8),
     ("65536*(x+1)^126+1", 0, 125, 7),
 ];
 
 fn longest() {
     println!();
-    head("ms for a text, the least of three", ["desk", "plain Rust"]);
+    head(
+        "ms to read a text, the least of many",
+        ["desk", "plain Rust"],
+    );
     for (sum, m, power, deep) in LONG {
         let label = format!("{sum}, ^{power} {deep} deep, m = {}", modulus(m));
-        reads_long(&label, m, &joined(&nested(sum, power, deep), "*"));
+        reads_long(&label, 40, m, &nested(sum, power, deep));
+    }
+    for (sum, m, power, deep) in [LONG[2], LONG[4]] {
+        let text = joined(&nested(sum, power, deep));
+        let label = format!("{sum}, such texts joined, {} bytes", text.len());
+        reads_long(&label, 3, m, &text);
     }
 }
 

@@ -51,6 +51,11 @@ pub fn beside(
     plain: &mut dyn FnMut(usize) -> u64,
 ) {
     let [a, b] = by_turns(label, RUNS, calls, desk, plain);
+    row(label, [a, b]);
+}
+
+/// The line of a table.
+pub fn row(label: &str, [a, b]: [f64; 2]) {
     println!("{label:<52}{a:>12.1}{b:>12.1}{:>8.2}", a / b);
 }
 
