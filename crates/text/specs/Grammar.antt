@@ -4,7 +4,7 @@
 --   spell s                           the bytes of a sum; spell-product, -factor, -base of its parts
 --   digits-value c                    the number that decimal digits stand for
 --   number-digits, most-power, most-deep    the limits
---   Decimal c                          1 to 10 bytes, each a digit
+--   Decimal c                         1 to 10 bytes, each a digit
 --   Fits s most d                     s keeps the limits where d brackets are open around it and `most` may be open at once
 use mathlib.Core.List.{List, [], _∷_, _++_}
 use Prim.Native.Nat.{ℕ, suc, _+_, _*_, _-_, _≤_, _<_}
