@@ -5,11 +5,11 @@
 --   ninth-..                   nine open brackets: where one may open, and where none may
 use mathlib.Core.Path.{_≡_, refl}
 use mathlib.Core.List.{List, [], _∷_, _++_}
-use Prim.Native.Nat.{ℕ}
+use Prim.Native.Nat.{ℕ, suc, _-_}
 use lib.ListN.{replicate}
 use Rattle.algebra.specs.Number.{table}
-use Rattle.algebra.specs.Polynomial.{plus, scaled, times, power, terms, limit}
-use Rattle.algebra.specs.Polynomial.{reduced}
+use Rattle.algebra.specs.Polynomial.{plus, scaled, times, power, terms, limit, reduced}
+use Rattle.digits.specs.Digits.{decimal, digits, most-digits}
 use Rattle.text.specs.Grammar.{Sum, term, add, subtract, single, multiply, plain, raised, number, unknown, bracket, digits-value, digits-value-from}
 use Rattle.text.specs.Meaning.{meaning}
 use Rattle.text.specs.States.{spelling, deep, begin, step, run, good, bad, Verdict, verdict}
@@ -28,11 +28,11 @@ example : of text ≡ good tree
 unfolding run step
 example = refl
 
-example-means : reduced 97 (meaning tree 97) ≡ 0 ∷ 94 ∷ 1 ∷ 2 ∷ 1 ∷ replicate 122 0
+example-means : reduced 97 (meaning tree 97) ≡ 0 ∷ 94 ∷ 1 ∷ 2 ∷ 1 ∷ replicate (terms - 5) 0
 unfolding reduced table terms limit meaning plus scaled times power digits-value digits-value-from
 example-means = refl
 
--- x^2^2, +x, x--x, 2x, (), X, a space, x^127, x^00000000126, an open bracket, nothing
+-- x^2^2, +x, x--x, 2x, (), a power above the limit, a power of eleven digits, an open bracket, nothing
 no-second-power : of (120 ∷ 94 ∷ 50 ∷ 94 ∷ 50 ∷ []) ≡ bad spelling
 unfolding run step digits-value digits-value-from limit
 no-second-power = refl
@@ -53,8 +53,8 @@ no-empty-bracket : of (40 ∷ 41 ∷ []) ≡ bad spelling
 unfolding run step
 no-empty-bracket = refl
 
-no-high-power : of (120 ∷ 94 ∷ 49 ∷ 50 ∷ 55 ∷ []) ≡ bad spelling
-unfolding run step digits-value digits-value-from limit
+no-high-power : of (120 ∷ 94 ∷ decimal (suc limit)) ≡ bad spelling
+unfolding run step digits-value digits-value-from limit decimal digits most-digits
 no-high-power = refl
 
 no-long-power : of (120 ∷ 94 ∷ (replicate 9 48 ++ (49 ∷ 50 ∷ []))) ≡ bad spelling
