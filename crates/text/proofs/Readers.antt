@@ -21,7 +21,7 @@ use lib.ListN.{length, drop, getD, length-append, drop-of-length-le}
 use lib.Seq.{drop-cons}
 use Rattle.algebra.specs.Polynomial.{limit, times}
 use Rattle.built.specs.declared.Built.{Built}
-use Rattle.built.specs.Built.{built, Joins}
+use Rattle.built.specs.Built.{built, BuiltAs, Joins}
 use Rattle.built.specs.Built as built-specs
 use Rattle.built.proofs.Joining.{above-measured, as-measured, as-single, as-plus, as-less, as-times, as-scaled, as-power}
 use Rattle.text.specs.declared.Found.{Found}
@@ -382,51 +382,37 @@ module _ (m : ℕ) (s : List ℕ) (at d : ℕ) where
   sum-end n c = found refl (record { tree = c .tree; ahead = c .ahead; inside = c .inside; held = c .held; leads = c .leads; ends = λ st f z. c .ends st f z (n z .0) (n z .1) })
 
   module _ {k : ℕ} {v : Built} (c : Done a-sum a-product m s at d k v) (l : k < length s) where
-    module _ (b : getD s k 0 ≡ 43) where
-      plus-run : (st : List Frame) (f : Frame) → length st ≡ d → run most-deep (begin st) (drop at s) ≡ run most-deep (expect st (frame (states.plus (c .tree)) none)) (drop (k + 1) s)
-      plus-run st f e = c .leads st f e ∙ run-byte (at-sum st (c .tree)) (expect st (frame (states.plus (c .tree)) none)) s k 43 l b (sum-plus most-deep st (c .tree))
+    -- behind a sign, after which `on` says what stands before the next product; + and - differ in that and in the tree that they make
+    module _ {b : ℕ} (e : getD s k 0 ≡ b) (on : Sum → Before) (goes : (st : List Frame) → step most-deep (at-sum st (c .tree)) b ≡ expect st (frame (on (c .tree)) none)) where
+      sign-run : (st : List Frame) (f : Frame) → length st ≡ d → run most-deep (begin st) (drop at s) ≡ run most-deep (expect st (frame (on (c .tree)) none)) (drop (k + 1) s)
+      sign-run st f z = c .leads st f z ∙ run-byte (at-sum st (c .tree)) (expect st (frame (on (c .tree)) none)) s k b l e (goes st)
 
-      plus-missed : {r : Found} → (r .fault ≡ 0 → ⊥) → Reads a-product a-product m s (k + 1) d r → Reads a-sum a-sum m s at d r
-      plus-missed n x =
+      sign-missed : {r : Found} → (r .fault ≡ 0 → ⊥) → Reads a-product a-product m s (k + 1) d r → Reads a-sum a-sum m s at d r
+      sign-missed n x =
           let z = x .fails n in
-          missed n (record { fault = z .fault; is = z .is; says = λ st f e. ap verdict (plus-run st f e) ∙ z .says st (frame (states.plus (c .tree)) none) e })
+          missed n (record { fault = z .fault; is = z .is; says = λ st f y. ap verdict (sign-run st f y) ∙ z .says st (frame (on (c .tree)) none) y })
 
-      plus-more : {next : ℕ} {u w : Built} → 1 < m → Done a-product a-product m s (k + 1) d next u → Adds m (getD s k 0) v u w → Done a-sum a-product m s at d next w
-      unfolding meaning Within
-      plus-more two x j =
+      sign-more : {next : ℕ} {u w : Built} (t : Sum) (x : Done a-product a-product m s (k + 1) d next u)
+          → ((st : List Frame) → at-product st (on (c .tree)) (x .tree) ≡ at-sum st t) → BuiltAs m (meaning t m) (Within t m) w → Done a-sum a-product m s at d next w
+      sign-more {next} t x same held =
           record {
-            tree = add (c .tree) (x .tree);
+            tree = t;
             ahead = omega (arith, c .ahead, x .ahead);
             inside = x .inside;
-            held = as-plus (omega arith) (c .held) (x .held) (j .sum b);
-            leads = λ st f e. plus-run st f e ∙ x .leads st (frame (states.plus (c .tree)) none) e;
-            ends = λ st f z. x .ends st (frame (states.plus (c .tree)) none) z;
-          }
-
-    module _ (b : getD s k 0 ≡ 45) where
-      less-run : (st : List Frame) (f : Frame) → length st ≡ d → run most-deep (begin st) (drop at s) ≡ run most-deep (expect st (frame (less (c .tree)) none)) (drop (k + 1) s)
-      less-run st f e = c .leads st f e ∙ run-byte (at-sum st (c .tree)) (expect st (frame (less (c .tree)) none)) s k 45 l b (sum-less most-deep st (c .tree))
-
-      less-missed : {r : Found} → (r .fault ≡ 0 → ⊥) → Reads a-product a-product m s (k + 1) d r → Reads a-sum a-sum m s at d r
-      less-missed n x =
-          let z = x .fails n in
-          missed n (record { fault = z .fault; is = z .is; says = λ st f e. ap verdict (less-run st f e) ∙ z .says st (frame (less (c .tree)) none) e })
-
-      less-more : {next : ℕ} {u w : Built} → 1 < m → Done a-product a-product m s (k + 1) d next u → Adds m (getD s k 0) v u w → Done a-sum a-product m s at d next w
-      unfolding meaning Within
-      less-more two x j =
-          record {
-            tree = subtract (c .tree) (x .tree);
-            ahead = omega (arith, c .ahead, x .ahead);
-            inside = x .inside;
-            held = as-less (omega arith) (c .held) (x .held) (m - 1) (j .difference (λ z. omega arith));
-            leads = λ st f e. less-run st f e ∙ x .leads st (frame (less (c .tree)) none) e;
-            ends = λ st f z. x .ends st (frame (less (c .tree)) none) z;
+            held = held;
+            leads = λ st f y. sign-run st f y ∙ x .leads st (frame (on (c .tree)) none) y ∙ ap (λ q. run most-deep q (drop next s)) (same st);
+            ends = λ st f y. rw (same st) at (x .ends st (frame (on (c .tree)) none) y);
           }
 
     module _ (sign : (getD s k 0 ≡ 43) ⊎ (getD s k 0 ≡ 45)) where
       pub sum-more-missed : {r : Found} → (r .fault ≡ 0 → ⊥) → Reads a-product a-product m s (k + 1) d r → Reads a-sum a-sum m s at d r
-      sum-more-missed n x = ⊎-elim (λ b. plus-missed b n x) (λ b. less-missed b n x) sign
+      sum-more-missed n x =
+          ⊎-elim (λ b. sign-missed b states.plus (λ st. sum-plus most-deep st (c .tree)) n x) (λ b. sign-missed b less (λ st. sum-less most-deep st (c .tree)) n x) sign
 
       pub sum-more : {next : ℕ} {u w : Built} → 1 < m → Done a-product a-product m s (k + 1) d next u → Adds m (getD s k 0) v u w → Done a-sum a-product m s at d next w
-      sum-more two x j = ⊎-elim (λ b. plus-more b two x j) (λ b. less-more b two x j) sign
+      unfolding meaning Within
+      sum-more two x j =
+          ⊎-elim
+          (λ b. sign-more b states.plus (λ st. sum-plus most-deep st (c .tree)) (add (c .tree) (x .tree)) x (λ st. refl) (as-plus (omega arith) (c .held) (x .held) (j .sum b)))
+          (λ b. sign-more b less (λ st. sum-less most-deep st (c .tree)) (subtract (c .tree) (x .tree)) x (λ st. refl) (as-less (omega arith) (c .held) (x .held) (m - 1) (j .difference (λ z. omega arith))))
+          sign
