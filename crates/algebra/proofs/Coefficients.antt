@@ -41,7 +41,7 @@ unfolding times
 coef-times-zero [] q = sym (N.zero-mul (coef q 0))
 coef-times-zero (a ∷ p) q = coef-plus (scaled a q) _ 0 ∙ omega (arith, coef-scaled a q 0)
 
-coef-times-suc : (p q : List ℕ) (k : ℕ) → coef (times p q) (suc k) ≡ coef p 0 * coef q (suc k) + coef (times (tail p) q) k
+pub coef-times-suc : (p q : List ℕ) (k : ℕ) → coef (times p q) (suc k) ≡ coef p 0 * coef q (suc k) + coef (times (tail p) q) k
 unfolding times
 coef-times-suc [] q k = omega arith
 coef-times-suc (a ∷ p) q k = coef-plus (scaled a q) (0 ∷ times p q) (suc k) ∙ omega (arith, coef-scaled a q (suc k))

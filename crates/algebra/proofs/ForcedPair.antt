@@ -30,28 +30,28 @@ module _ (m : ℕ) (pos : 0 < m) where
   Z = residues m pos
 
   -- p - q, modulo m
-  abbrev minus : List ℕ → List ℕ → List ℕ
+  abbrev pub minus : List ℕ → List ℕ → List ℕ
   minus p q = plus p (scaled (m - 1) q)
 
-  coef-minus : (p q : List ℕ) (i : ℕ) → coef (minus p q) i ≡ coef p i + (m - 1) * coef q i
+  pub coef-minus : (p q : List ℕ) (i : ℕ) → coef (minus p q) i ≡ coef p i + (m - 1) * coef q i
   coef-minus p q i = coef-plus p (scaled (m - 1) q) i ∙ ap (λ (x : ℕ). coef p i + x) (coef-scaled (m - 1) q i)
 
   times-all : (k y : ℕ) → m ≡ suc k → y + k * y ≡ y * m
   times-all k y e = rw e (omega arith)
 
-  no-difference : (x y : ℕ) → (x + (m - 1) * y) % m ≡ 0 % m → x % m ≡ y % m
+  pub no-difference : (x y : ℕ) → (x + (m - 1) * y) % m ≡ 0 % m → x % m ≡ y % m
   no-difference x y e = sym (N.add-mul-mod-self-right x y m) ∙ ap (λ (z : ℕ). z % m) (turn (m - 1) (omega arith)) ∙ sym (N.mod-add-mod (x + (m - 1) * y) m y) ∙ ap (λ (z : ℕ). (z + y) % m) e ∙ N.mod-add-mod 0 m y ∙ ap (λ (z : ℕ). z % m) (N.zero-add y)
     where
       turn : (k : ℕ) → m ≡ suc k → x + y * m ≡ x + k * y + y
       turn k e = rw e (omega arith)
 
-  all-round : (x y : ℕ) → x % m ≡ y % m → (x + (m - 1) * y) % m ≡ 0 % m
+  pub all-round : (x y : ℕ) → x % m ≡ y % m → (x + (m - 1) * y) % m ≡ 0 % m
   all-round x y e = sym (N.mod-add-mod x m ((m - 1) * y)) ∙ ap (λ (z : ℕ). (z + (m - 1) * y) % m) e ∙ N.mod-add-mod y m ((m - 1) * y) ∙ ap (λ (z : ℕ). z % m) (whole y) ∙ N.mul-mod-left y m ∙ sym (N.zero-mod m)
     where
       whole : (y : ℕ) → y + (m - 1) * y ≡ y * m
       whole y = times-all (m - 1) y (omega arith)
 
-  after-minus : (p q h : List ℕ) → Same m (after (minus p q) h) (minus (after p h) (after q h))
+  pub after-minus : (p q h : List ℕ) → Same m (after (minus p q) h) (minus (after p h) (after q h))
   after-minus p q h = equal→same m pos (simp (eval-after (Q m pos), eval-plus (Q m pos), eval-scaled (Q m pos)))
 
   -- the top of w(h), where h is monic, is that of w

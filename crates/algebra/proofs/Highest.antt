@@ -4,6 +4,7 @@
 --   highest-zero, highest-here    a power whose coefficient is 0 is passed; at the first other the walk ends
 --   degree-below                  the degree of a list that is not empty is below its length
 --   degree-above                  the coefficients above the degree are 0
+--   degree-leads                  that of the degree is not, where the degree is above 0
 --   degree-top                    a coefficient that is not 0, with only zeros above, is that of the degree
 --   degree-same                   lists with the same coefficients have the same degree, however long they are
 use mathlib.Core.Path.{_≡_, refl, sym, _∙_}
@@ -78,6 +79,10 @@ module _ (f : List ℕ) where
       go : Dec (i < length f) → coef f i ≡ 0
       go (yes l) = at-degree .above i h l
       go (no l) = List·getD-eq-default f 0 (omega arith)
+
+  -- a degree above 0 has a coefficient that is not 0
+  pub degree-leads : 0 < degree f → ¬ (coef f (degree f) ≡ 0)
+  degree-leads = at-degree .leads
 
   -- a coefficient that is not 0, with only zeros above, is that of the degree
   pub degree-top : (n : ℕ) → ¬ (coef f n ≡ 0) → ((i : ℕ) → n < i → coef f i ≡ 0) → degree f ≡ n

@@ -22,6 +22,9 @@ pub mod Changes
 pub mod Pairs
 pub mod ForcedPair
 pub mod RightPart
+pub mod Agreement
+pub mod Report
+pub mod Roots
 pub mod Chains
 pub mod Lists
 pub mod Complete

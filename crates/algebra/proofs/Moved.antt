@@ -1,6 +1,7 @@
 -- Composition with a line, said of lists.
 --
 --   reify                                 every polynomial over the residues has its list
+--   line-end                              what ends at x^k does so after a line
 --   moved-top, moved-above                h(a·x + b) has the degree of h, and a^s at its top
 --   change                                h(a·x + b) = h(b) + a^s·k with k monic and k(0) = 0
 use mathlib.Core.Path.{_≡_, sym, ap, ap₂, subst, subst₂, _∙_, fun-ext}
@@ -14,7 +15,7 @@ use Rattle.algebra.proofs.Evaluation.{nat, nat-zero, nat-mul, nat-pow, 
 use Rattle.algebra.proofs.Residues.{residues, Res, red, red-eq, same, nat-red, equal→same}
 use Rattle.algebra.proofs.Degrees.{Deg, Lead, Monic, compose}
 use Rattle.algebra.proofs.Lines.{lead-compose, eval-at-zero, normalise, pow-one, pow-mul}
-use Rattle.algebra.proofs.Polynomials.{monic-series, monic-list, at-residue, eval-compose, eval-line}
+use Rattle.algebra.proofs.Polynomials.{monic-series, monic-list, residue-at, at-residue, after-compose, eval-compose, eval-line}
 use Rattle.algebra.proofs.Ring as A
 use Rattle.algebra.specs.Number.{table}
 use Rattle.algebra.specs.Polynomial as P
@@ -38,24 +39,30 @@ module _ (m : ℕ) (pos : 0 < m) where
       go i (yes l) = same m pos (ap (λ (x : ℕ). x % m) (table-below (suc n) f i l) ∙ N.mod-eq-of-lt (k i .1))
       go i (no l) = ap (red m pos) (table-above (suc n) f i (omega arith)) ∙ sym (d .above i (omega arith))
 
+  -- the line a·x + b
+  line-lead : (a b : ℕ) → Lead Z 1 (nat Z a) (⟦ Z ⟧ (b ∷ a ∷ []))
+  line-lead a b = record { deg = record { above = far }; top = series-coef Z (b ∷ a ∷ []) 1 }
+    where
+      far : (i : ℕ) → 1 < i → ⟦ Z ⟧ (b ∷ a ∷ []) i ≡ red m pos 0
+      far zero l = absurd (N.not-suc-le-zero l)
+      far (suc zero) l = absurd (N.lt-irrefl 1 l)
+      far (suc (suc i)) l = series-coef Z (b ∷ a ∷ []) (suc (suc i)) ∙ nat-zero Z
+
+  -- what has no term above x^k has none after a line either
+  pub line-end : (k : ℕ) (w : List ℕ) (a b : ℕ) → ((i : ℕ) → k < i → P.coef w i % m ≡ 0 % m) → (i : ℕ) → k < i → P.coef (P.after w (b ∷ a ∷ [])) i % m ≡ 0 % m
+  line-end k w a b z i l = at-residue m pos _ i 0 (ap (λ (p : ℕ → Res m pos). p i) (after-compose m pos (suc k) w (b ∷ a ∷ []) (λ j g. residue-at m pos w j 0 (z j g)))
+      ∙ lead-compose Z (line-lead a b) (omega arith) k (⟦ Z ⟧ w) .deg .above i (omega arith))
+
   -- the steps, in the ring of the residues
   module _ {s : ℕ} {h : List ℕ} (mh : P.Monic m s h) (sp : 0 < s) (a b u : ℕ) (e : u * a % m ≡ 1 % m) where
     abbrev line : List ℕ
     line = b ∷ a ∷ []
 
-    line-lead : Lead Z 1 (nat Z a) (⟦ Z ⟧ line)
-    line-lead = record { deg = record { above = far }; top = series-coef Z line 1 }
-      where
-        far : (i : ℕ) → 1 < i → ⟦ Z ⟧ line i ≡ red m pos 0
-        far zero l = absurd (N.not-suc-le-zero l)
-        far (suc zero) l = absurd (N.lt-irrefl 1 l)
-        far (suc (suc i)) l = series-coef Z line (suc (suc i)) ∙ nat-zero Z
-
     moved-lead : Lead Z s (pow Z (nat Z a) s) (⟦ Z ⟧ (P.after h line))
     moved-lead = rw (eval-after (S.series Z) h line (S.X Z), eval-compose Z (suc s) h (⟦ Z ⟧ line) (monic-series m pos mh .deg .above))
         (subst₂ (λ n c. Lead Z n c (compose Z (suc s) (⟦ Z ⟧ h) (⟦ Z ⟧ line)))
         (N.mul-one s) (ap (λ x. Residues.rmul m pos x (pow Z (nat Z a) s)) (monic-series m pos mh .top) ∙ A.one-mul Z _)
-        (lead-compose Z line-lead (omega arith) s (⟦ Z ⟧ h)))
+        (lead-compose Z (line-lead a b) (omega arith) s (⟦ Z ⟧ h)))
 
     unit : Residues.rmul m pos (pow Z (nat Z u) s) (pow Z (nat Z a) s) ≡ red m pos 1
     unit = sym (pow-mul Z _ _ s) ∙ ap (λ x. pow Z x s) (sym (nat-mul Z u a) ∙ nat-red m pos (u * a) ∙ red-eq m pos (u * a) 1 e) ∙ pow-one Z s

@@ -25,6 +25,9 @@ mod-mul-mod a b m = sym (N.add-mul-mod-self-right (a % m * b) (a / m * b) m) ∙
 pub mul-mod-mod : (a b m : ℕ) → (a * (b % m)) % m ≡ (a * b) % m
 mul-mod-mod a b m = rw (N.mul-comm a (b % m), N.mul-comm a b) (mod-mul-mod b a m)
 
+pub add-same : (m a b c d : ℕ) → a % m ≡ c % m → b % m ≡ d % m → (a + b) % m ≡ (c + d) % m
+add-same m a b c d e f = sym (N.mod-add-mod a m b) ∙ ap (λ (x : ℕ). (x + b) % m) e ∙ N.mod-add-mod c m b ∙ sym (N.add-mod-mod c b m) ∙ ap (λ (x : ℕ). (c + x) % m) f ∙ N.add-mod-mod c d m
+
 pub mul-same : (m a b c d : ℕ) → a % m ≡ c % m → b % m ≡ d % m → a * b % m ≡ c * d % m
 mul-same m a b c d e f = sym (mod-mul-mod a b m) ∙ ap (λ (k : ℕ). k * b % m) e ∙ mod-mul-mod c b m ∙ sym (mul-mod-mod c b m) ∙ ap (λ (k : ℕ). c * k % m) f ∙ mul-mod-mod c d m
 

@@ -46,7 +46,7 @@ unfoldable pub monomial : ℕ → List ℕ
 monomial zero = 1 ∷ []
 monomial (suc r) = 0 ∷ monomial r
 
-monomial-monic : (m r : ℕ) → Monic m r (monomial r)
+pub monomial-monic : (m r : ℕ) → Monic m r (monomial r)
 unfolding monomial
 monomial-monic m zero = record { top = refl; above = far }
   where
@@ -99,7 +99,7 @@ module _ (m : ℕ) (pos : 0 < m) where
       here = ap₂ (Residues.radd m pos) (series-coef Z h j) (ap (Residues.rneg m pos) (series-coef Z k j ∙ ap (nat Z) (terms-from-below (suc j) h j (N.le-refl (suc j))) ∙ nat-zero Z) ∙ A.neg-zero Z) ∙ A.add-zero Z _
 
   -- the leading terms of g(h) are those of h^r
-  after-power : {s : ℕ} (r : ℕ) {g h : List ℕ} → Monic m (suc r) g → Monic m s h → (i : ℕ) → r * s < i → coef (after g h) i % m ≡ coef (power h (suc r)) i % m
+  pub after-power : {s : ℕ} (r : ℕ) {g h : List ℕ} → Monic m (suc r) g → Monic m s h → (i : ℕ) → r * s < i → coef (after g h) i % m ≡ coef (power h (suc r)) i % m
   after-power {s} r {g} {h} mg mh i l = at-residue m pos (after g h) i _ (ap (λ (q : ℕ → Res m pos). q i) (after-compose m pos (suc (suc r)) g h (monic-series m pos mg .deg .above))
       ∙ lead-at Z (monic-series m pos mh .deg) r (⟦ Z ⟧ g) (monic-series m pos mg .top) i l ∙ sym (ap (λ (q : ℕ → Res m pos). q i) (eval-power (S.series Z) h (suc r) (S.X Z))) ∙ residue-at m pos (power h (suc r)) i _ refl)
 

@@ -7,6 +7,10 @@
 --   Unsplit m p              p splits at no r
 --   terms-from j h           h without its terms below x^j
 --   ForcedRight m r s f h    h has the coefficients that 01's Right part rule forces
+--   ForcedLeft m r s f h g   g is the monic left part for which g(h) and f agree at every power x^(is)
+--   ForcedPair m r s f g h   the only pair that f can have, whether it composes to f or not
+--   Differs m p q k          x^k is the highest power at which p and q differ
+--   Report m r s f k         x^k is the highest power at which the forced pair, composed, and f differ
 use mathlib.Core.Path.{_≡_}
 use mathlib.Core.List.{List, [], _∷_}
 use Prim.Native.Nat.{ℕ, zero, suc, _+_, _*_, _-_, _%_, _≤_, _<_}
@@ -59,3 +63,25 @@ pub record ForcedRight (m r s : ℕ) (f h : List ℕ) : Type 0 where
   pub normal : Normal m h
   pub forced : (k : ℕ) → 0 < k → k < s
       → (coef (power (terms-from (suc (s - k)) h) r) (r * s - k) + r * coef h (s - k)) % m ≡ coef f (r * s - k) % m
+
+-- 000's system (1): g is monic of degree r, and g(h) and f agree at every power x^(is)
+pub record ForcedLeft (m r s : ℕ) (f h g : List ℕ) : Type 0 where
+  pub monic : Monic m r g
+  pub forced : (i : ℕ) → coef (after g h) (i * s) % m ≡ coef f (i * s) % m
+
+-- the right part by 01's rule, the left part by 000's system
+pub record ForcedPair (m r s : ℕ) (f g h : List ℕ) : Type 0 where
+  pub right : ForcedRight m r s f h
+  pub left : ForcedLeft m r s f h g
+
+-- p and q agree above x^k, and at x^k they do not
+pub record Differs (m : ℕ) (p q : List ℕ) (k : ℕ) : Type 0 where
+  pub above : (i : ℕ) → k < i → coef p i % m ≡ coef q i % m
+  pub here : ¬ (coef p k % m ≡ coef q k % m)
+
+-- request No. 7: what a no reports
+pub record Report (m r s : ℕ) (f : List ℕ) (k : ℕ) : Type 0 where
+  pub g : List ℕ
+  pub h : List ℕ
+  pub forced : ForcedPair m r s f g h
+  pub differs : Differs m f (after g h) k

@@ -20,9 +20,10 @@ pub extern "C" fn measure_product(a: &[u32], b: &[u32], m: u64, out: &mut [u32])
     if 0x7fff_ffff <= out.len() {
         return;
     }
+    let d = residue::made_ready(m);
     let mut k = 0;
     while k < out.len() {
-        out[k] = residue::inner_product(a, b, k, 0, k + 1, m);
+        out[k] = residue::inner_product(a, b, k, 0, k + 1, d);
         k += 1;
     }
 }
@@ -36,7 +37,7 @@ pub extern "C" fn measure_power(a: u32, n: usize, m: u64) -> u32 {
     if MACHINE_WORDS < m {
         return 0;
     }
-    residue::power(a, n, m)
+    residue::power(a, n, residue::made_ready(m))
 }
 
 // The inverse of a modulo m, and 0 where there is none or m is no modulus.

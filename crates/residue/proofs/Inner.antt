@@ -6,7 +6,7 @@
 --   inner-split                   the sum of n + j terms is that of the first n and that of the last j
 --   inner-drop                    a list that is read from a later place on
 --   inner-extensional             lists that agree at the sum's indices have the same sum
---   strided-..                    the same of `strided`
+--   strided-..                    the same of `strided`; strided-first takes the first term apart
 --   stride-start, stride-inside, stride-next     the place that a loop over i has reached
 use mathlib.Core.Path.{_≡_, sym, _∙_, ap, ap₂, subst}
 use mathlib.Core.List.{List}
@@ -17,7 +17,7 @@ use lib.ListN.{drop}
 use lib.Seq.{getD-drop}
 use Rattle.algebra.specs.Number.{sum}
 use Rattle.algebra.specs.Polynomial.{coef}
-use Rattle.algebra.proofs.Numbers.{sum-none, sum-more, sum-split, sum-ext, sum-zeros}
+use Rattle.algebra.proofs.Numbers.{sum-none, sum-more, sum-first, sum-split, sum-ext, sum-zeros}
 use Rattle.residue.specs.Residue.{inner, strided, Strides}
 
 module _ (a b : List ℕ) (k lo : ℕ) where
@@ -75,6 +75,13 @@ module _ (a b : List ℕ) (lo at step : ℕ) where
       let f : i + 1 - lo ≡ suc (i - lo) = omega arith in
       let g : lo + (i - lo) ≡ i = omega arith in
       ap (strided a b lo at step) f ∙ strided-more (i - lo) ∙ rw (g, ← q, e)
+
+pub strided-first : (a b : List ℕ) (lo at step n : ℕ) → strided a b lo at step (suc n) ≡ coef a lo * coef b at + strided a b (suc lo) (at + step) step n
+unfolding strided
+strided-first a b lo at step n =
+    sum-first n (λ i. coef a (lo + i) * coef b (at + i * step))
+    ∙ ap₂ _+_ (let e : lo + 0 ≡ lo = omega arith in let f : at + 0 * step ≡ at = omega arith in ap₂ (λ (x y : ℕ). coef a x * coef b y) e f)
+    (sum-ext n _ _ (λ i l. let e : lo + suc i ≡ suc lo + i = omega arith in let f : at + suc i * step ≡ at + step + i * step = omega arith in ap₂ (λ (x y : ℕ). coef a x * coef b y) e f))
 
 pub strided-extensional : (a a′ b b′ : List ℕ) (lo at step n : ℕ) → ((i : ℕ) → i < n → coef a (lo + i) ≡ coef a′ (lo + i))
     → ((i : ℕ) → i < n → coef b (at + i * step) ≡ coef b′ (at + i * step)) → strided a b lo at step n ≡ strided a′ b′ lo at step n

@@ -3,5 +3,6 @@ pub mod Euclid
 pub mod Inner
 pub mod Inverses
 pub mod Powers
+pub mod Reciprocals
 pub mod Sizes
 pub mod Words

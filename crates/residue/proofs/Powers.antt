@@ -16,8 +16,8 @@ pub record Powers (m a n r s l : ℕ) : Type 0 where
   pub small : r < m
   pub is : Congruent m (r * s ^ l) (a ^ n)
 
-pub begun : (m a n : ℕ) → 0 < m → Powers m a n (1 % m) a n
-begun m a n pos = record { small = mod-lt 1 pos; is = times (a ^ n) (reduced refl) then from-eq (one-mul (a ^ n)) }
+pub begun : (m a n : ℕ) → 1 < m → Powers m a n 1 a n
+begun m a n l = record { small = l; is = from-eq (one-mul (a ^ n)) }
 
 squares : (s k : ℕ) → (s * s) ^ k ≡ s ^ (k + k)
 squares s zero = pow-zero (s * s) ∙ sym (pow-zero s)

@@ -4,12 +4,12 @@
 --   widened-none, widened-one, widened-more     no product, one in the low word, and one more
 --   widened-room                 few products leave room in the high word
 --   widened-mod                  the words modulo m are s modulo m
---   one-word, two-words          the words modulo m: with high 0, and 32 bits at a time
-use mathlib.Core.Path.{_≡_, refl, sym, _∙_, ap}
-use Prim.Native.Nat.{ℕ, _+_, _*_, _/_, _%_, _^_, _≤_, _<_}
+--   one-word, two-words          the words modulo m: with high 0, and with what a carry counts modulo m
+use mathlib.Core.Path.{_≡_, sym, _∙_, ap}
+use Prim.Native.Nat.{ℕ, _+_, _*_, _%_, _^_, _≤_, _<_}
 use native.Mathlib.Nat.{le-trans}
 use native.Mathlib.Omega.{arith}
-use Rattle.residue.proofs.Congruent.{from-eq, reduced, plus, times, _then_}
+use Rattle.residue.proofs.Congruent.{from-eq, plus, times, _then_}
 
 -- a data type: `omega` would read a record's large numbers wherever one is in reach, and break off
 pub data Widened (n high low s : ℕ) : Type 0 where
@@ -31,10 +31,15 @@ widened-room r (widened is k) = omega arith
 pub widened-mod : (m : ℕ) {n h l s r : ℕ} → r ≡ (h * 2 ^ 64 + l) % m → Widened n h l s → r ≡ s % m
 widened-mod m e (widened is k) = e ∙ ap (λ (x : ℕ). x % m) is
 
-pub two-words : (m h l : ℕ) → ((h * 2 ^ 32 + l / 2 ^ 32) % m * 2 ^ 32 + l % 2 ^ 32) % m ≡ (h * 2 ^ 64 + l) % m
-two-words m h l =
-    let f : (h * 2 ^ 32 + l / 2 ^ 32) * 2 ^ 32 + l % 2 ^ 32 ≡ h * 2 ^ 64 + l = omega arith in
-    (plus (l % 2 ^ 32) (times (2 ^ 32) (reduced refl)) then from-eq f) .same
+pub two-words : (m h l c n : ℕ) → c % m ≡ 2 ^ 64 % m → n % m ≡ l % m → (h * c + n) % m ≡ (h * 2 ^ 64 + l) % m
+two-words m h l c n e f = go (2 ^ 64) e
+  where
+    go : (D : ℕ) → c % m ≡ D % m → (h * c + n) % m ≡ (h * D + l) % m
+    go D e =
+        let a : h * c + n ≡ c * h + n = omega arith in
+        let b : D * h + n ≡ n + D * h = omega arith in
+        let d : l + D * h ≡ h * D + l = omega arith in
+        (from-eq a then plus n (times h (record { same = e })) then from-eq b then plus (D * h) (record { same = f }) then from-eq d) .same
 
 pub one-word : (m l : ℕ) {h : ℕ} → h ≡ 0 → l % m ≡ (h * 2 ^ 64 + l) % m
 one-word m l {h} e = ap (λ (x : ℕ). x % m) (omega arith)

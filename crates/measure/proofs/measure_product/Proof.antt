@@ -7,10 +7,10 @@ use Rattle.measure.proofs.measure_product.Statement.{statement}
 use Rattle.measure.proofs.measure_product.Tie as tie
 
 abbrev Inv-loop : tie.InvT-loop
-Inv-loop a b m out₀ k₀ out k = (k ≤ length out) × (length out ≡ length out₀)
+Inv-loop a b m out₀ d k₀ out k = (k ≤ length out) × (length out ≡ length out₀)
 
 abbrev μ-loop : tie.MeasureT-loop
-μ-loop a b m out₀ k₀ out k = length out₀ - k
+μ-loop a b m out₀ d k₀ out k = length out₀ - k
 
 loop-again : tie.Need-loop-again Inv-loop μ-loop
 loop-again c = simp length-set (omega arith, c .before .before .loop .inv .1)
@@ -26,6 +26,7 @@ measure-product-spec =
     (λ c. search needs)
     (λ c. search needs)
     (λ c. search needs)
+    (λ c κs. search needs)
     (λ c. search needs)
     (λ c. search needs)
     (λ c κs. search needs)

@@ -29,14 +29,14 @@ loop-again c = (
 )
 
 reduced-requires : tie.Need-reduced-requires Inv-loop μ-loop
-reduced-requires c κs = (c .before .before .before .before .before .pre .0, widened-room (omega arith) (c .before .loop .inv .2))
+reduced-requires c κs = (c .before .before .before .before .before .before .pre .0, widened-room (omega arith) (c .before .loop .inv .2))
 
 returns : tie.Need-returns Inv-loop μ-loop
 returns c = rw (c .before .if1 .taken) (c .inner-words .ensures)
 
 returns-2 : tie.Need-returns-2 Inv-loop μ-loop
 returns-2 c =
-    let e : c .before .before .loop .i ≡ c .before .before .before .before .before .before .args .hi = omega arith in
+    let e : c .before .before .loop .i ≡ c .before .before .before .before .before .before .before .args .hi = omega arith in
     widened-mod _ (c .reduced .ensures) (rw e at (c .before .before .loop .inv .2))
 
 pub inner-product-spec : {M : Type 1} → statement M

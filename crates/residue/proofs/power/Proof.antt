@@ -3,18 +3,14 @@ use mathlib.Core.Path.{_∙_}
 use native.Mathlib.Omega.{arith}
 use borrow.Author.Needs.{needs}
 use Rattle.residue.proofs.Powers.{Powers, begun, even, odd, reached}
-use Rattle.residue.proofs.Sizes.{under}
 use Rattle.residue.proofs.power.Statement.{statement}
 use Rattle.residue.proofs.power.Tie as tie
 
 abbrev Inv-loop : tie.InvT-loop
-Inv-loop a n m result₀ square₀ left₀ result square left = Powers m a n result square left
+Inv-loop a n m result₀ square₀ left₀ result square left = Powers (m .number) a n result square left
 
 abbrev μ-loop : tie.MeasureT-loop
 μ-loop a n m result₀ square₀ left₀ result square left = left
-
-cast-result : tie.Need-cast-result Inv-loop μ-loop
-cast-result c = record { fits = under _ (omega arith) (omega arith) }
 
 loop-holds : tie.Need-loop-holds Inv-loop μ-loop
 loop-holds c = begun _ _ _ (omega arith)
@@ -35,8 +31,6 @@ power-spec =
     (tie.spec
     Inv-loop
     μ-loop
-    (λ c. omega arith)
-    cast-result
     loop-holds
     (λ c κs. search needs)
     (λ c κs. search needs)

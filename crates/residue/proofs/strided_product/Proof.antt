@@ -24,7 +24,7 @@ loop-holds c = (
 )
 
 shared-slice-read-whole-2 : tie.Need-shared-slice-read-whole-2 Inv-loop μ-loop
-shared-slice-read-whole-2 c = stride-inside _ (c .before .before .before .before .before .before .before .pre .1) (omega arith) (c .before .before .before .loop .inv .2)
+shared-slice-read-whole-2 c = stride-inside _ (c .before .before .before .before .before .before .before .before .pre .1) (omega arith) (c .before .before .before .loop .inv .2)
 
 added-requires : tie.Need-added-requires Inv-loop μ-loop
 added-requires c κs = widened-room (omega arith) (c .before .before .before .before .loop .inv .4)
@@ -32,23 +32,23 @@ added-requires c κs = widened-room (omega arith) (c .before .before .before .be
 loop-again : tie.Need-loop-again Inv-loop μ-loop
 loop-again c =
     let l = c .before .before .before .before .before .loop in
-    let a = c .before .before .before .before .before .before .before .before .before .args in (
+    let a = c .before .before .before .before .before .before .before .before .before .before .args in (
       omega arith,
       omega arith,
       stride-next _ _ _ (l .inv .2) (omega arith),
-      omega (arith, stride-inside (l .i - a .lo) (c .before .before .before .before .before .before .before .before .before .pre .1) (omega arith) (l .inv .2)),
+      omega (arith, stride-inside (l .i - a .lo) (c .before .before .before .before .before .before .before .before .before .before .pre .1) (omega arith) (l .inv .2)),
       widened-more _ (omega arith) (strided-next _ _ _ _ _ _ _ (omega arith) (l .inv .2) (c .before .whole .ensures)) (c .added .ensures) (l .inv .4),
     )
 
 reduced-requires : tie.Need-reduced-requires Inv-loop μ-loop
-reduced-requires c κs = (c .before .before .before .before .before .pre .0, widened-room (omega arith) (c .before .loop .inv .4))
+reduced-requires c κs = (c .before .before .before .before .before .before .pre .0, widened-room (omega arith) (c .before .loop .inv .4))
 
 returns : tie.Need-returns Inv-loop μ-loop
 returns c = rw (c .before .if1 .taken) (c .strided-words .ensures)
 
 returns-2 : tie.Need-returns-2 Inv-loop μ-loop
 returns-2 c =
-    let e : c .before .before .loop .i ≡ c .before .before .before .before .before .before .args .hi = omega arith in
+    let e : c .before .before .loop .i ≡ c .before .before .before .before .before .before .before .args .hi = omega arith in
     widened-mod _ (c .reduced .ensures) (rw e at (c .before .before .loop .inv .4))
 
 pub strided-product-spec : {M : Type 1} → statement M

@@ -19,7 +19,7 @@ returns c = rw (c .before .before .before .if1 .taken) (one-more _ _ _ (c .befor
 returns-2 : tie.Need-returns-2
 returns-2 c =
     widened-mod _ (c .reduced .ensures)
-    (widened-more _ {n = 0} refl (ap (λ (p : ℕ). c .before .before .before .before .before .args .a * c .before .before .before .before .before .args .x + p) (sym (c .before .before .whole2 .ensures))) (c .before .added .ensures) (widened-one (c .before .before .before .whole .ensures)))
+    (widened-more _ {n = 0} refl (ap (λ (p : ℕ). c .before .before .before .before .before .before .args .a * c .before .before .before .before .before .before .args .x + p) (sym (c .before .before .whole2 .ensures))) (c .before .added .ensures) (widened-one (c .before .before .before .whole .ensures)))
 
 pub two-products-spec : {M : Type 1} → statement M
 two-products-spec =
