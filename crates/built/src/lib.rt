@@ -3,14 +3,15 @@
 ghost use mathlib.Core.Path.{_≡_};
 ghost use mathlib.Core.Bool.{true, false};
 ghost use Prim.Native.Nat.{_+_, _-_, _*_, _%_, _≤_, min, max};
-ghost use Rattle.algebra.specs.Number.{Modulus};
 ghost use Rattle.algebra.specs.Polynomial.{coef, plus, scaled, times, limit, degree as degree-of};
+ghost use Rattle.residue.specs.Ready.{Ready};
 ghost use Rattle.polynomial.specs.Checks.{Measured};
 ghost use Rattle.composition.specs.Composition.{Ends};
 ghost use Rattle.built.specs.Built.{single as single-of, Low, built as built-of, above as above-of, Settles, Joins, Shifts, Powers, Raises};
 use polynomial::Coefficients;
 use polynomial::LIMIT;
 use polynomial::TERMS;
+use residue::Divisor;
 
 pub struct Built {
     pub over: bool,
@@ -39,12 +40,12 @@ fn degree_to(c: &[u32], top: usize) -> usize
 }
 
 // c * x^k.
-pub fn single(c: u64, k: usize, m: u64) -> Built
-    requires { ⌜ Modulus m × (k ≤ limit) ⌝ }
-    ensures { λ r. ⌜ r ≡ built-of m (single-of c k) ⌝ }
+pub fn single(c: u64, k: usize, m: Divisor) -> Built
+    requires { ⌜ Ready m × (k ≤ limit) ⌝ }
+    ensures { λ r. ⌜ r ≡ built-of (m .number) (single-of c k) ⌝ }
 {
     let mut x = [0; TERMS];
-    x[k] = (c % m) as u32;
+    x[k] = residue::remainder(c, m);
     let degree = degree_to(&x, k);
     Built {
         over: false,
@@ -61,9 +62,9 @@ fn larger(a: usize, b: usize) -> usize
 }
 
 // x + k * y, of two polynomials that end at x^top, and a number.
-fn mixed(x: &[u32], y: &[u32], top: usize, k: u32, m: u64) -> Built
-    requires { ⌜ Modulus m × Ends top (now x) × Ends top (now y) ⌝ }
-    ensures { λ r. ⌜ r ≡ built-of m (plus (now (x .entry)) (scaled k (now (y .entry)))) ⌝ }
+fn mixed(x: &[u32], y: &[u32], top: usize, k: u32, m: Divisor) -> Built
+    requires { ⌜ Ready m × Ends top (now x) × Ends top (now y) ⌝ }
+    ensures { λ r. ⌜ r ≡ built-of (m .number) (plus (now (x .entry)) (scaled k (now (y .entry)))) ⌝ }
 {
     let mut c = [0; TERMS];
     let end = top + 1;
@@ -79,9 +80,9 @@ fn mixed(x: &[u32], y: &[u32], top: usize, k: u32, m: u64) -> Built
 }
 
 // a + k * b.
-pub fn combine(a: Built, b: Built, k: u32, m: u64) -> Built
-    requires { ⌜ Modulus m × Measured (a .degree) (a .coefficients) × Measured (b .degree) (b .coefficients) ⌝ }
-    ensures { λ r. ⌜ Joins m (plus (a .coefficients) (scaled k (b .coefficients))) a b r ⌝ }
+pub fn combine(a: Built, b: Built, k: u32, m: Divisor) -> Built
+    requires { ⌜ Ready m × Measured (a .degree) (a .coefficients) × Measured (b .degree) (b .coefficients) ⌝ }
+    ensures { λ r. ⌜ Joins (m .number) (plus (a .coefficients) (scaled k (b .coefficients))) a b r ⌝ }
 {
     if a.over {
         return above();
@@ -101,18 +102,18 @@ fn less(k: usize, s: usize) -> usize
 }
 
 // The coefficient of x^k in the product of x and y, of degrees n and s.
-fn coefficient(x: &[u32], n: usize, y: &[u32], s: usize, k: usize, m: u64) -> u32
-    requires { ⌜ Modulus m × Measured n (now x) × Measured s (now y) × (k ≤ n + s) ⌝ }
-    ensures { λ r. ⌜ r ≡ coef (times (now (x .entry)) (now (y .entry))) k % m ⌝ }
+fn coefficient(x: &[u32], n: usize, y: &[u32], s: usize, k: usize, m: Divisor) -> u32
+    requires { ⌜ Ready m × Measured n (now x) × Measured s (now y) × (k ≤ n + s) ⌝ }
+    ensures { λ r. ⌜ r ≡ coef (times (now (x .entry)) (now (y .entry))) k % m .number ⌝ }
 {
     residue::inner_product(x, y, k, less(k, s), polynomial::smaller(k, n) + 1, m)
 }
 
 // Whether a coefficient of the product above the limit is not zero; from the top, where most such products show it.
-fn spills(x: &[u32], n: usize, y: &[u32], s: usize, m: u64) -> bool
-    requires { ⌜ Modulus m × Measured n (now x) × Measured s (now y) ⌝ }
-    ensures no { λ r. ⌜ (r ≡ false → Low m (times (now (x .entry)) (now (y .entry)))) ⌝ }
-    ensures yes { λ r. ⌜ (r ≡ true → Low m (times (now (x .entry)) (now (y .entry))) → ⊥) ⌝ }
+fn spills(x: &[u32], n: usize, y: &[u32], s: usize, m: Divisor) -> bool
+    requires { ⌜ Ready m × Measured n (now x) × Measured s (now y) ⌝ }
+    ensures no { λ r. ⌜ (r ≡ false → Low (m .number) (times (now (x .entry)) (now (y .entry)))) ⌝ }
+    ensures yes { λ r. ⌜ (r ≡ true → Low (m .number) (times (now (x .entry)) (now (y .entry))) → ⊥) ⌝ }
 {
     let mut k = n + s;
     while LIMIT < k {
@@ -125,9 +126,9 @@ fn spills(x: &[u32], n: usize, y: &[u32], s: usize, m: u64) -> bool
 }
 
 // The product up to x^top, where it ends, or the limit does.
-fn product(x: &[u32], n: usize, y: &[u32], s: usize, top: usize, m: u64) -> Built
-    requires { ⌜ Modulus m × Measured n (now x) × Measured s (now y) × (top ≡ min (n + s) limit) ⌝ }
-    ensures { λ r. ⌜ r ≡ built-of m (times (now (x .entry)) (now (y .entry))) ⌝ }
+fn product(x: &[u32], n: usize, y: &[u32], s: usize, top: usize, m: Divisor) -> Built
+    requires { ⌜ Ready m × Measured n (now x) × Measured s (now y) × (top ≡ min (n + s) limit) ⌝ }
+    ensures { λ r. ⌜ r ≡ built-of (m .number) (times (now (x .entry)) (now (y .entry))) ⌝ }
 {
     let mut c = [0; TERMS];
     let end = top + 1;
@@ -143,9 +144,9 @@ fn product(x: &[u32], n: usize, y: &[u32], s: usize, top: usize, m: u64) -> Buil
 }
 
 // x * y, of degrees n and s.
-fn whole(x: &[u32], n: usize, y: &[u32], s: usize, m: u64) -> Built
-    requires { ⌜ Modulus m × Measured n (now x) × Measured s (now y) ⌝ }
-    ensures { λ r. ⌜ Settles m (times (now (x .entry)) (now (y .entry))) r ⌝ }
+fn whole(x: &[u32], n: usize, y: &[u32], s: usize, m: Divisor) -> Built
+    requires { ⌜ Ready m × Measured n (now x) × Measured s (now y) ⌝ }
+    ensures { λ r. ⌜ Settles (m .number) (times (now (x .entry)) (now (y .entry))) r ⌝ }
 {
     if spills(x, n, y, s, m) {
         return above();
@@ -154,9 +155,9 @@ fn whole(x: &[u32], n: usize, y: &[u32], s: usize, m: u64) -> Built
 }
 
 // a * b.
-pub fn multiply(a: Built, b: Built, m: u64) -> Built
-    requires { ⌜ Modulus m × Measured (a .degree) (a .coefficients) × Measured (b .degree) (b .coefficients) ⌝ }
-    ensures { λ r. ⌜ Joins m (times (a .coefficients) (b .coefficients)) a b r ⌝ }
+pub fn multiply(a: Built, b: Built, m: Divisor) -> Built
+    requires { ⌜ Ready m × Measured (a .degree) (a .coefficients) × Measured (b .degree) (b .coefficients) ⌝ }
+    ensures { λ r. ⌜ Joins (m .number) (times (a .coefficients) (b .coefficients)) a b r ⌝ }
 {
     if a.over {
         return above();
@@ -184,9 +185,9 @@ fn shifts(x: &[u32], n: usize, p: usize) -> bool
 }
 
 // x^p, a factor at a time, until a power goes above the limit.
-fn repeated(x: &[u32], n: usize, p: usize, m: u64) -> Built
-    requires { ⌜ Modulus m × Measured n (now x) ⌝ }
-    ensures { λ r. ⌜ Powers m p (now (x .entry)) r ⌝ }
+fn repeated(x: &[u32], n: usize, p: usize, m: Divisor) -> Built
+    requires { ⌜ Ready m × Measured n (now x) ⌝ }
+    ensures { λ r. ⌜ Powers (m .number) p (now (x .entry)) r ⌝ }
 {
     let mut v = single(1, 0, m);
     for i in 0..p {
@@ -200,9 +201,9 @@ fn repeated(x: &[u32], n: usize, p: usize, m: u64) -> Built
 }
 
 // a^p. The power of a single term is written at once.
-pub fn raise(a: Built, p: usize, m: u64) -> Built
-    requires { ⌜ Modulus m × Measured (a .degree) (a .coefficients) × (p ≤ limit) ⌝ }
-    ensures { λ r. ⌜ Raises m p a r ⌝ }
+pub fn raise(a: Built, p: usize, m: Divisor) -> Built
+    requires { ⌜ Ready m × Measured (a .degree) (a .coefficients) × (p ≤ limit) ⌝ }
+    ensures { λ r. ⌜ Raises (m .number) p a r ⌝ }
 {
     if a.over {
         return above();

@@ -9,6 +9,7 @@
 --   passed-hit                       one at which there is a pair: the first split
 --   passed-all                       all up to n/2: there is no split
 --   searched-splits                  so the round tells whether f splits
+--   asked-at, open-at, none-at       what is asked at a right degree, what is left where the root leaves it open, and that its no is no pair
 --   hit, miss                        what the answer to a split says
 use mathlib.Core.Path.{_≡_, refl, sym, ap, subst, _∙_}
 use mathlib.Core.Bool.{Bool, true, false, false≢true}
@@ -27,9 +28,12 @@ use Rattle.polynomial.specs.Degrees.{Degrees}
 use Rattle.refusal.specs.Refusal.{is-refused}
 use Rattle.polynomial.specs.Answers.{no-parts}
 use Rattle.polynomial.specs.declared.Parts.{Parts}
-use Rattle.pair.specs.Pairing.{SplitAnswer}
+use Rattle.right.specs.Right.{Root}
+use Rattle.pair.specs.Pairing.{SplitAsked, Opened, SplitAnswer}
 use Rattle.pair.specs.Pairing as of
+use Rattle.pair.proofs.Forcing.{root-open, root-none}
 use Rattle.chain.specs.Chaining.{ChainAsked, Searched, Splittable}
+use Rattle.chain.proofs.Asking.{left-coprime}
 
 divides-yes : (d n : ℕ) → n % d ≡ 0 → divides d n ≡ 1
 unfolding divides
@@ -129,6 +133,20 @@ searched-splits {m} {s = s} {f = f} a w = record {
   yes = λ z u. let k = w .yes z in split-at (a .modulus .above-one) (a .whole .reduced) (a .whole .monic) u s (splits (k .two-left) (k .two-right) (k .product) (k .pair .pair));
   no = λ z. unsplit-at (a .modulus .above-one) (a .whole .reduced) (a .whole .monic) (w .no z .none);
 }
+
+-- at a right degree
+module _ {m n s : ℕ} {f table : List ℕ} (a : ChainAsked m n f table) (two : 2 ≤ s) (e : n % s ≡ 0) (l : s ≤ n / 2) where
+  pub asked-at : SplitAsked m n (n / s) s f table
+  asked-at = record { modulus = a .modulus; degrees = half-degrees two e l (a .whole .within); whole = a .whole; binomials = a .binomials }
+
+  pub coprime-at : Coprime (n / s) m
+  coprime-at = left-coprime s (a .modulus .above-one) (a .coprime) (asked-at .degrees .product)
+
+  pub open-at : {t : List ℕ} {b : Bool} → Root m f (n / s) s t b → Opened m n (n / s) s f t
+  open-at = root-open asked-at coprime-at
+
+  pub none-at : {t : List ℕ} {b : Bool} → Root m f (n / s) s t b → b ≡ false → NoPair m f (n / s) s
+  none-at = root-none asked-at coprime-at
 
 -- a split that is answered has the pair
 pub hit : {m r s : ℕ} {f : List ℕ} {x : Parts} → is-refused (x .outcome) ≡ false → SplitAnswer m f r s x → NormalPair m f r s (x .left) (x .right)

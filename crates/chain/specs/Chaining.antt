@@ -8,6 +8,8 @@
 --   Splittable m f b              whether f splits
 --   ChainedIn m n f xs ys k t c   the chain of f stands in the first k places of ys, with its tries t and its price c
 --   unchained o                   the outcome o beside zeros, as after a refusal
+--   ChainGiven m n f xs t         what the chain is given with an accepted f of degree n
+--   ChainFound m n f xs ys x      what it answers then: No. 5, or the chain, in the area
 --   ChainOf m f xs ys x           x answers: the chain of f; xs is the area before, ys the area afterwards
 use mathlib.Core.Path.{_≡_}
 use mathlib.Core.Bool.{Bool, true, false}
@@ -77,6 +79,19 @@ pub record ChainedIn (m n : ℕ) (f xs ys : List ℕ) (count tries cost : ℕ) :
 -- zeros beside an outcome
 abbrev pub unchained : Outcome → Chained
 unchained o = record { outcome = o; parts = 0; tries = 0; price = 0 }
+
+-- f is accepted, and the area has its places
+pub record ChainGiven (m n : ℕ) (f xs table : List ℕ) : Type 0 where
+  pub modulus : Modulus m
+  pub whole : Held m n f
+  pub two : 2 ≤ n
+  pub room : area-words ≤ length xs
+  pub binomials : table ≡ triangle rows
+
+-- No. 5 exactly if n and m share a factor, and the area is as it was; else the parts in its first places
+pub data ChainFound (m n : ℕ) (f xs ys : List ℕ) (x : Chained) : Type 0 where
+  factor : (Coprime n m → ⊥) → ys ≡ xs → x ≡ unchained (refusal Neither Factor) → ChainFound m n f xs ys x
+  parts : {k t c : ℕ} → Coprime n m → ChainedIn m n f xs ys k t c → x ≡ record { outcome = Answered; parts = k; tries = t; price = c } → ChainFound m n f xs ys x
 
 -- 11 before everything, and nothing is written; then 1, 2, 3, 4, then 5 if n and m share a factor, and all places are zero;
 -- else the chain, with zeros in the unused places. Words past the places never change.

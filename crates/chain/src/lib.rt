@@ -1,19 +1,21 @@
 // The chain: the parts that f composes of, none of which splits further, in a lent area.
 ghost use mathlib.Core.Path.{_≡_};
 ghost use mathlib.Core.List.{List};
-ghost use Prim.Native.Nat.{ℕ, _≤_};
+ghost use Prim.Native.Nat.{ℕ, _*_, _%_, _≤_};
 ghost use lib.ListN.{length};
-ghost use Rattle.algebra.specs.Number.{Modulus};
+ghost use Rattle.algebra.specs.Number.{Coprime, Modulus};
 ghost use Rattle.algebra.specs.Polynomial.{degree};
 ghost use Rattle.algebra.specs.Chain.{cost as cost-of};
+ghost use Rattle.residue.specs.Ready.{Ready};
 ghost use Rattle.polynomial.specs.Moduli.{modulus};
 ghost use Rattle.area.specs.Area.{area-words};
-ghost use Rattle.chain.specs.Chaining.{ChainAsked, Searched, Splittable, ChainedIn, Shares, unchained as unchained-of, ChainOf};
+ghost use Rattle.chain.specs.Chaining.{ChainAsked, Searched, Splittable, ChainedIn, Shares, unchained as unchained-of, ChainGiven, ChainFound, ChainOf};
 use binomial::ENTRIES;
 use polynomial::Coefficients;
 use refusal::Concerns;
 use refusal::Outcome;
 use refusal::Reason;
+use residue::Divisor;
 use residue::Inverse;
 
 // What the chain answers: zeros after a refusal.
@@ -33,29 +35,48 @@ struct Round {
     right: Coefficients,
 }
 
-// The round: each right degree from 2 to n / 2 that divides n, until f splits.
-fn first_split(f: Coefficients, n: usize, table: &[u64; ENTRIES], m: u64) -> Round
-    requires { ⌜ ChainAsked m n f (now table) ⌝ }
-    ensures { λ a. ⌜ Searched m n f (a .found) (a .at) (a .tries) (a .left) (a .right) ⌝ }
+// The inverse of n, which shares no factor with m.
+fn inverse(n: usize, m: u64) -> u32
+    requires { ⌜ Modulus m × Coprime n m ⌝ }
+    ensures { λ v. ⌜ n * v % m ≡ 1 ⌝ }
 {
+    match residue::invert(n as u64, m) {
+        Inverse::Of(v) => v,
+        Inverse::Shared(_) => 0,
+    }
+}
+
+// The round: each right degree from 2 to n / 2 that divides n, until f splits. v is the inverse of n. The quick question is asked at
+// each, and the split is carried out only where it leaves a pair open.
+fn first_split(f: Coefficients, n: usize, v: u32, table: &[u64; ENTRIES], m: Divisor) -> Round
+    requires { ⌜ ChainAsked (m .number) n f (now table) × (n * v % m .number ≡ 1) × Ready m ⌝ }
+    ensures { λ a. ⌜ Searched (m .number) n f (a .found) (a .at) (a .tries) (a .left) (a .right) ⌝ }
+{
+    let mut rows = [0; right::WORDS];
     let mut tries = 0;
     let mut s = 2;
     while s <= n / 2 {
-        if n % s == 0 {
-            tries += 1;
-            let a = pair::split_at(f, n, n / s, s, table, m);
-            let o = a.outcome;
-            if !refusal::refuses(o) {
-                let left = a.left;
-                let right = a.right;
-                return Round {
-                    found: true,
-                    at: s,
-                    tries,
-                    left,
-                    right,
-                };
-            }
+        if n % s != 0 {
+            s += 1;
+            continue;
+        }
+        tries += 1;
+        if !pair::is_open(&mut rows, &f, n, n / s, s, v, table, m) {
+            s += 1;
+            continue;
+        }
+        let a = pair::split_open(f, &rows, n, n / s, s, m);
+        let o = a.outcome;
+        if !refusal::refuses(o) {
+            let left = a.left;
+            let right = a.right;
+            return Round {
+                found: true,
+                at: s,
+                tries,
+                left,
+                right,
+            };
         }
         s += 1;
     }
@@ -69,11 +90,12 @@ fn first_split(f: Coefficients, n: usize, table: &[u64; ENTRIES], m: u64) -> Rou
 }
 
 // Whether f splits.
-pub fn splits(f: Coefficients, n: usize, table: &[u64; ENTRIES], m: u64) -> bool
-    requires { ⌜ ChainAsked m n f (now table) ⌝ }
-    ensures { λ b. ⌜ Splittable m f b ⌝ }
+pub fn splits(f: Coefficients, n: usize, table: &[u64; ENTRIES], m: Divisor) -> bool
+    requires { ⌜ ChainAsked (m .number) n f (now table) × Ready m ⌝ }
+    ensures { λ b. ⌜ Splittable (m .number) f b ⌝ }
 {
-    let a = first_split(f, n, table, m);
+    let v = inverse(n, m.number);
+    let a = first_split(f, n, v, table, m);
     a.found
 }
 
@@ -92,12 +114,20 @@ pub fn cost(n: usize) -> usize
     n - 1
 }
 
-// The parts of f from the first place on: those of the left part first, then the right part in the next place.
-fn parts(f: Coefficients, n: usize, area: &mut [u32], table: &[u64; ENTRIES], m: u64) -> Counted
-    requires { ⌜ ChainAsked m n f (now table) × (area-words ≤ length (now area)) ⌝ }
-    ensures { λ c. ⌜ ChainedIn m n f (now (area .entry)) (now (area .exit)) (c .parts) (c .tries) (c .price) ⌝ }
+// The parts of f from the first place on: those of the left part first, then the right part in the next place. v is the inverse of
+// n, and that of the left degree n / s is s * v: one search for an inverse serves all rounds.
+fn parts(
+    f: Coefficients,
+    n: usize,
+    v: u32,
+    area: &mut [u32],
+    table: &[u64; ENTRIES],
+    m: Divisor,
+) -> Counted
+    requires { ⌜ ChainAsked (m .number) n f (now table) × (area-words ≤ length (now area)) × (n * v % m .number ≡ 1) × Ready m ⌝ }
+    ensures { λ c. ⌜ ChainedIn (m .number) n f (now (area .entry)) (now (area .exit)) (c .parts) (c .tries) (c .price) ⌝ }
 {
-    let a = first_split(f, n, table, m);
+    let a = first_split(f, n, v, table, m);
     if !a.found {
         area::put(area, 0, &f);
         return Counted {
@@ -109,7 +139,8 @@ fn parts(f: Coefficients, n: usize, area: &mut [u32], table: &[u64; ENTRIES], m:
     let s = a.at;
     let left = a.left;
     let right = a.right;
-    let c = parts(left, n / s, area, table, m);
+    let u = residue::multiply(v, s as u32, m);
+    let c = parts(left, n / s, u, area, table, m);
     area::put(area, c.parts, &right);
     let count = c.parts + 1;
     let tries = a.tries + c.tries;
@@ -144,6 +175,29 @@ pub fn shares(n: usize, m: u64) -> bool
     }
 }
 
+// The chain of f, which is accepted and of degree n, in an area with zeros in its places: No. 5, or the chain.
+pub fn accepted(
+    f: Coefficients,
+    n: usize,
+    area: &mut [u32],
+    table: &[u64; ENTRIES],
+    m: Divisor,
+) -> Chained
+    requires { ⌜ ChainGiven (m .number) n f (now area) (now table) × Ready m ⌝ }
+    ensures { λ x. ⌜ ChainFound (m .number) n f (now (area .entry)) (now (area .exit)) x ⌝ }
+{
+    let Inverse::Of(v) = residue::invert(n as u64, m.number) else {
+        return unchained(refusal::refused(Concerns::Neither, Reason::Factor));
+    };
+    let c = parts(f, n, v, area, table, m);
+    Chained {
+        outcome: Outcome::Answered,
+        parts: c.parts,
+        tries: c.tries,
+        price: c.price,
+    }
+}
+
 // The operation: the chain of f, its number of parts, tries and price.
 pub fn chain(m: u32, f: Coefficients, area: &mut [u32]) -> Chained
     ensures { λ x. ⌜ ChainOf (modulus m) f (now (area .entry)) (now (area .exit)) x ⌝ }
@@ -158,15 +212,7 @@ pub fn chain(m: u32, f: Coefficients, area: &mut [u32]) -> Chained
     if refusal::refuses(o) {
         return unchained(o);
     }
-    if shares(n, m) {
-        return unchained(refusal::refused(Concerns::Neither, Reason::Factor));
-    }
+    let d = residue::made_ready(m);
     let table = binomial::table();
-    let c = parts(f, n, area, &table, m);
-    Chained {
-        outcome: Outcome::Answered,
-        parts: c.parts,
-        tries: c.tries,
-        price: c.price,
-    }
+    accepted(f, n, area, &table, d)
 }

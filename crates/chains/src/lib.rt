@@ -2,6 +2,7 @@
 ghost use mathlib.Core.Path.{_≡_};
 ghost use Prim.Native.Nat.{_/_, _≤_};
 ghost use lib.ListN.{length};
+ghost use Rattle.residue.specs.Ready.{Ready};
 ghost use Rattle.polynomial.specs.Moduli.{modulus};
 ghost use Rattle.polynomial.specs.Degrees.{Degrees};
 ghost use Rattle.area.specs.Area.{area-words};
@@ -13,6 +14,7 @@ use polynomial::Coefficients;
 use refusal::Concerns;
 use refusal::Outcome;
 use refusal::Reason;
+use residue::Divisor;
 
 // What the number of chains answers: zero after a refusal.
 pub struct Numbered {
@@ -46,9 +48,9 @@ fn unended(f: Coefficients) -> Ending
 }
 
 // The rightmost part of degree s: the right part of f there, if it does not split.
-fn rightmost(f: Coefficients, n: usize, s: usize, table: &[u64; ENTRIES], m: u64) -> Ending
-    requires { ⌜ ChainAsked m n f (now table) × Degrees n (n / s) s ⌝ }
-    ensures { λ a. ⌜ RightmostAt m n f s (a .found) (a .left) (a .right) ⌝ }
+fn rightmost(f: Coefficients, n: usize, s: usize, table: &[u64; ENTRIES], m: Divisor) -> Ending
+    requires { ⌜ ChainAsked (m .number) n f (now table) × Degrees n (n / s) s × Ready m ⌝ }
+    ensures { λ a. ⌜ RightmostAt (m .number) n f s (a .found) (a .left) (a .right) ⌝ }
 {
     let a = pair::split_at(f, n, n / s, s, table, m);
     let o = a.outcome;
@@ -68,9 +70,9 @@ fn rightmost(f: Coefficients, n: usize, s: usize, table: &[u64; ENTRIES], m: u64
 }
 
 // The number of complete chains: over the right degrees from 2 to n / 2, and f alone if none of them has any.
-fn count(f: Coefficients, n: usize, table: &[u64; ENTRIES], m: u64) -> usize
-    requires { ⌜ ChainAsked m n f (now table) ⌝ }
-    ensures { λ c. ⌜ HasChains m f c ⌝ }
+fn count(f: Coefficients, n: usize, table: &[u64; ENTRIES], m: Divisor) -> usize
+    requires { ⌜ ChainAsked (m .number) n f (now table) × Ready m ⌝ }
+    ensures { λ c. ⌜ HasChains (m .number) f c ⌝ }
 {
     let mut c = 0;
     let mut s = 2;
@@ -130,10 +132,10 @@ fn walk(
     j: usize,
     area: &mut [u32],
     table: &[u64; ENTRIES],
-    m: u64,
+    m: Divisor,
 ) -> Reach
-    requires { ⌜ ChainAsked m n f (now table) × (area-words ≤ length (now area)) ⌝ }
-    ensures { λ a. ⌜ Walked m f j (now (area .entry)) (now (area .exit)) a ⌝ }
+    requires { ⌜ ChainAsked (m .number) n f (now table) × (area-words ≤ length (now area)) × Ready m ⌝ }
+    ensures { λ a. ⌜ Walked (m .number) f j (now (area .entry)) (now (area .exit)) a ⌝ }
 {
     let mut rest = j;
     let mut s = 2;
@@ -194,8 +196,9 @@ pub fn count_chains(m: u32, f: Coefficients) -> Numbered
     if chain::shares(n, m) {
         return unnumbered(refusal::refused(Concerns::Neither, Reason::Factor));
     }
+    let d = residue::made_ready(m);
     let table = binomial::table();
-    let number = count(f, n, &table, m);
+    let number = count(f, n, &table, d);
     Numbered {
         outcome: Outcome::Answered,
         number,
@@ -219,8 +222,9 @@ pub fn nth_chain(m: u32, f: Coefficients, j: usize, area: &mut [u32]) -> Chosen
     if chain::shares(n, m) {
         return unchosen(refusal::refused(Concerns::Neither, Reason::Factor));
     }
+    let d = residue::made_ready(m);
     let table = binomial::table();
-    let a = walk(f, n, j, area, &table, m);
+    let a = walk(f, n, j, area, &table, d);
     if !a.found {
         return unchosen(refusal::refused(Concerns::Neither, Reason::Beyond));
     }

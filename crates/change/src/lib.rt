@@ -9,6 +9,7 @@ ghost use lib.ListN.{length};
 ghost use Rattle.algebra.specs.Number.{Modulus};
 ghost use Rattle.algebra.specs.Polynomial.{scaled, terms, reduced, Held};
 ghost use Rattle.polynomial.specs.Moduli.{modulus};
+ghost use Rattle.residue.specs.Ready.{Ready};
 ghost use Rattle.change.specs.Moving.{Lined, moved as moved-of};
 ghost use Rattle.change.specs.Changing.{made, unchanged as unchanged-beside, improper as improper-outcome, combined-change, Tests, Inverts, Undone, PolynomialChanged, RightChanged, PairChanged, Combines, Undoing, ChangesPolynomial, ChangesPair};
 use polynomial::Answer;
@@ -18,6 +19,7 @@ use polynomial::TERMS;
 use refusal::Concerns;
 use refusal::Outcome;
 use refusal::Reason;
+use residue::Divisor;
 use residue::Inverse;
 
 // x becomes unit * x + origin.
@@ -85,9 +87,9 @@ fn improper() -> Outcome
 }
 
 // (a·a2, a·b2 + b).
-fn combined(first: Change, second: Change, m: u64) -> Change
-    requires { ⌜ Modulus m ⌝ }
-    ensures { λ r. ⌜ r ≡ combined-change m first second ⌝ }
+fn combined(first: Change, second: Change, m: Divisor) -> Change
+    requires { ⌜ Ready m ⌝ }
+    ensures { λ r. ⌜ r ≡ combined-change (m .number) first second ⌝ }
 {
     Change {
         unit: residue::multiply(first.unit, second.unit, m),
@@ -96,11 +98,11 @@ fn combined(first: Change, second: Change, m: u64) -> Change
 }
 
 // (1/a, -b/a), by the inverse u of a.
-fn undone(c: Change, u: u32, m: u64) -> Change
-    requires { ⌜ Inverts m (c .unit) u × (u < m) × (c .origin < m) ⌝ }
-    ensures { λ r. ⌜ Undone m c r ⌝ }
+fn undone(c: Change, u: u32, m: Divisor) -> Change
+    requires { ⌜ Inverts (m .number) (c .unit) u × (u < m .number) × (c .origin < m .number) × Ready m ⌝ }
+    ensures { λ r. ⌜ Undone (m .number) c r ⌝ }
 {
-    let minus = residue::subtract(0, c.origin, m);
+    let minus = residue::subtract(0, c.origin, m.number);
     Change {
         unit: u,
         origin: residue::multiply(u, minus, m),
@@ -137,7 +139,7 @@ impl Change {
         }
         Made {
             outcome: Outcome::Answered,
-            change: combined(first, second, m),
+            change: combined(first, second, residue::made_ready(m)),
         }
     }
 
@@ -156,7 +158,7 @@ impl Change {
         }
         Made {
             outcome: Outcome::Answered,
-            change: undone(c, t.inverse, m),
+            change: undone(c, t.inverse, residue::made_ready(m)),
         }
     }
 }
@@ -172,18 +174,18 @@ fn line(a: u32, b: u32) -> Coefficients
 }
 
 // f(a·x + b), for f of degree n.
-fn moved(f: &[u32], n: usize, a: u32, b: u32, m: u64) -> Coefficients
-    requires { ⌜ Modulus m × Held m n (now f) ⌝ }
-    ensures { λ p. ⌜ p ≡ moved-of m (now (f .entry)) a b ⌝ }
+fn moved(f: &[u32], n: usize, a: u32, b: u32, m: Divisor) -> Coefficients
+    requires { ⌜ Ready m × Held (m .number) n (now f) ⌝ }
+    ensures { λ p. ⌜ p ≡ moved-of (m .number) (now (f .entry)) a b ⌝ }
 {
     let l = line(a, b);
     composition::compose(f, &l, n, 1, m)
 }
 
 // Each coefficient times c.
-fn multiple(p: &[u32], c: u32, m: u64) -> Coefficients
-    requires { ⌜ Modulus m × (length (now p) ≡ terms) ⌝ }
-    ensures { λ q. ⌜ q ≡ reduced m (scaled c (now (p .entry))) ⌝ }
+fn multiple(p: &[u32], c: u32, m: Divisor) -> Coefficients
+    requires { ⌜ Ready m × (length (now p) ≡ terms) ⌝ }
+    ensures { λ q. ⌜ q ≡ reduced (m .number) (scaled c (now (p .entry))) ⌝ }
 {
     let mut q = [0; TERMS];
     for k in 0..TERMS {
@@ -193,9 +195,9 @@ fn multiple(p: &[u32], c: u32, m: u64) -> Coefficients
 }
 
 // a^(-n)·f(a·x + b), by the inverse u of a.
-fn changed(f: &[u32], n: usize, a: u32, b: u32, u: u32, m: u64) -> Coefficients
-    requires { ⌜ Inverts m a u × Held m n (now f) ⌝ }
-    ensures { λ r. ⌜ PolynomialChanged m n a b (now (f .entry)) r ⌝ }
+fn changed(f: &[u32], n: usize, a: u32, b: u32, u: u32, m: Divisor) -> Coefficients
+    requires { ⌜ Inverts (m .number) a u × Held (m .number) n (now f) × Ready m ⌝ }
+    ensures { λ r. ⌜ PolynomialChanged (m .number) n a b (now (f .entry)) r ⌝ }
 {
     let p = moved(f, n, a, b, m);
     multiple(&p, residue::power(u, n, m), m)
@@ -208,9 +210,9 @@ struct Right {
 }
 
 // h′ = a^(-s)·(h(a·x + b) - h(b)): the constant of h(a·x + b) is h(b).
-fn changed_right(h: &[u32], s: usize, a: u32, b: u32, u: u32, m: u64) -> Right
-    requires { ⌜ Inverts m a u × Held m s (now h) ⌝ }
-    ensures { λ r. ⌜ RightChanged m s a b (now (h .entry)) (r .part) (r .origin) ⌝ }
+fn changed_right(h: &[u32], s: usize, a: u32, b: u32, u: u32, m: Divisor) -> Right
+    requires { ⌜ Inverts (m .number) a u × Held (m .number) s (now h) × Ready m ⌝ }
+    ensures { λ r. ⌜ RightChanged (m .number) s a b (now (h .entry)) (r .part) (r .origin) ⌝ }
 {
     let mut p = moved(h, s, a, b, m);
     let origin = p[0];
@@ -222,9 +224,18 @@ fn changed_right(h: &[u32], s: usize, a: u32, b: u32, u: u32, m: u64) -> Right
 }
 
 // The changed pair.
-fn changed_pair(g: &[u32], r: usize, h: &[u32], s: usize, a: u32, b: u32, u: u32, m: u64) -> Parts
-    requires { ⌜ Inverts m a u × Held m r (now g) × Held m s (now h) ⌝ }
-    ensures { λ x. ⌜ PairChanged m r s a b (now (g .entry)) (now (h .entry)) x ⌝ }
+fn changed_pair(
+    g: &[u32],
+    r: usize,
+    h: &[u32],
+    s: usize,
+    a: u32,
+    b: u32,
+    u: u32,
+    m: Divisor,
+) -> Parts
+    requires { ⌜ Inverts (m .number) a u × Held (m .number) r (now g) × Held (m .number) s (now h) × Ready m ⌝ }
+    ensures { λ x. ⌜ PairChanged (m .number) r s a b (now (g .entry)) (now (h .entry)) x ⌝ }
 {
     let right = changed_right(h, s, a, b, u, m);
     let part = right.part;
@@ -259,7 +270,7 @@ pub fn change_polynomial(m: u32, f: Coefficients, c: Change) -> Answer
     }
     Answer {
         outcome: Outcome::Answered,
-        polynomial: changed(&f, n, c.unit, c.origin, t.inverse, m),
+        polynomial: changed(&f, n, c.unit, c.origin, t.inverse, residue::made_ready(m)),
     }
 }
 
@@ -278,5 +289,14 @@ pub fn change_pair(m: u32, g: Coefficients, h: Coefficients, c: Change) -> Parts
     if !t.proper {
         return polynomial::no_parts(improper());
     }
-    changed_pair(&g, r, &h, s, c.unit, c.origin, t.inverse, m)
+    changed_pair(
+        &g,
+        r,
+        &h,
+        s,
+        c.unit,
+        c.origin,
+        t.inverse,
+        residue::made_ready(m),
+    )
 }

@@ -2,16 +2,17 @@
 // A step is in place, from the top power down, so that what is read is not written yet.
 ghost use mathlib.Core.Path.{_≡_};
 ghost use mathlib.Core.List.{[], _∷_};
-ghost use Rattle.algebra.specs.Number.{Modulus};
 ghost use Rattle.algebra.specs.Polynomial.{plus, times, reduced};
+ghost use Rattle.residue.specs.Ready.{Ready};
 ghost use Rattle.composition.specs.Composition.{composition, Composable, Room};
 use polynomial::Coefficients;
 use polynomial::TERMS;
+use residue::Divisor;
 
 // One step for a line h, as in every change: two products a place, and no loop over h.
-fn line_step(p: &mut [u32], c: u32, h: &[u32], d: usize, m: u64)
-    requires { ⌜ Modulus m × Room 1 d (now h) (now p) ⌝ }
-    ensures { λ _. ⌜ now (p .exit) ≡ reduced m (plus (c ∷ []) (times (now (h .entry)) (now (p .entry)))) ⌝ }
+fn line_step(p: &mut [u32], c: u32, h: &[u32], d: usize, m: Divisor)
+    requires { ⌜ Ready m × Room 1 d (now h) (now p) ⌝ }
+    ensures { λ _. ⌜ now (p .exit) ≡ reduced (m .number) (plus (c ∷ []) (times (now (h .entry)) (now (p .entry)))) ⌝ }
 {
     let mut k = d;
     while k != 0 {
@@ -22,9 +23,9 @@ fn line_step(p: &mut [u32], c: u32, h: &[u32], d: usize, m: u64)
 }
 
 // One step: p becomes c + h·p, of a degree up to d. With c = 0 it is one power of h more, for the left part.
-pub fn step(p: &mut [u32], c: u32, h: &[u32], s: usize, d: usize, m: u64)
-    requires { ⌜ Modulus m × Room s d (now h) (now p) ⌝ }
-    ensures { λ _. ⌜ now (p .exit) ≡ reduced m (plus (c ∷ []) (times (now (h .entry)) (now (p .entry)))) ⌝ }
+pub fn step(p: &mut [u32], c: u32, h: &[u32], s: usize, d: usize, m: Divisor)
+    requires { ⌜ Ready m × Room s d (now h) (now p) ⌝ }
+    ensures { λ _. ⌜ now (p .exit) ≡ reduced (m .number) (plus (c ∷ []) (times (now (h .entry)) (now (p .entry)))) ⌝ }
 {
     if s == 1 {
         line_step(p, c, h, d, m);
@@ -39,9 +40,9 @@ pub fn step(p: &mut [u32], c: u32, h: &[u32], s: usize, d: usize, m: u64)
 }
 
 // g(h), for g that ends at x^r and h that ends at x^s; one polynomial is held at a time.
-pub fn compose(g: &[u32], h: &[u32], r: usize, s: usize, m: u64) -> Coefficients
-    requires { ⌜ Modulus m × Composable r s (now g) (now h) ⌝ }
-    ensures { λ f. ⌜ f ≡ composition m (now (g .entry)) (now (h .entry)) ⌝ }
+pub fn compose(g: &[u32], h: &[u32], r: usize, s: usize, m: Divisor) -> Coefficients
+    requires { ⌜ Ready m × Composable r s (now g) (now h) ⌝ }
+    ensures { λ f. ⌜ f ≡ composition (m .number) (now (g .entry)) (now (h .entry)) ⌝ }
 {
     let mut p = [0; TERMS];
     let mut i = r + 1;

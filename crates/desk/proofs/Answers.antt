@@ -4,6 +4,7 @@
 --   face-compose             desk_compose
 --   face-left-part           desk_left_part
 --   face-split               desk_split
+--   face-quick               desk_quick
 --   face-change-polynomial   desk_change_polynomial
 --   face-change-pair         desk_change_pair
 --   face-combine             desk_combine
@@ -43,7 +44,9 @@ use Rattle.sheet.proofs.Promises.{write-determined, read-determined}
 use Rattle.text.specs.declared.Written.{Written}
 use Rattle.text.specs.Answers.{ReadsText}
 use Rattle.text.proofs.Promises as text-law
-use Rattle.desk.specs.Face.{told, CheckedAs, AnswersAs, PartsAs, MadeAs, ChainedAs, NumberedAs, ChosenAs, WrittenAs, ReadAs, TextAs, start-of, place-of}
+use Rattle.pair.specs.declared.Verdict.{Verdict}
+use Rattle.pair.proofs.Reports.{quick-determined}
+use Rattle.desk.specs.Face.{told, said, QuickAs, CheckedAs, AnswersAs, PartsAs, MadeAs, ChainedAs, NumberedAs, ChosenAs, WrittenAs, ReadAs, TextAs, start-of, place-of}
 use Rattle.desk.specs.declared.Refused.{Refused}
 
 -- where an operation's contract determines its answer, so does that of its face
@@ -99,6 +102,11 @@ face-combine = made-face-unique (λ x y. combine-determined)
 pub face-undo : {m : ℕ} {c : Change} {out out′ : List ℕ} {r r′ : Refused}
     → MadeAs (Undoing m c) r out → MadeAs (Undoing m c) r′ out′ → (r ≡ r′) × (out ≡ out′)
 face-undo = made-face-unique (λ x y. undo-determined)
+
+pub face-quick : {m r : ℕ} {f answer answer′ : List ℕ} {x x′ : Refused} → length f ≡ terms → QuickAs m f r x answer → QuickAs m f r x′ answer′ → (x ≡ x′) × (answer ≡ answer′)
+face-quick lf x y =
+    let e = quick-determined lf (x .is) (y .is) in
+    (x .refused ∙ ap (λ (v : Verdict). told (v .outcome)) e ∙ sym (y .refused), x .answer-is ∙ ap (λ (v : Verdict). said (v .splits) ∷ v .power ∷ []) e ∙ sym (y .answer-is))
 
 -- with every word of the area
 pub face-chain : {m : ℕ} {f xs ys zs numbers numbers′ : List ℕ} {r r′ : Refused} → length f ≡ terms

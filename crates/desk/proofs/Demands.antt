@@ -2,12 +2,15 @@
 --
 -- Demand 1: every request gets an answer, and each refusal returns and writes what the table says. That the work ends is what the
 -- check shows of every function; that the contracts determine the answer and each word of lent memory is said here.
---   record-answer, compose-answer, left-part-answer, split-answer, change-polynomial-answer, change-pair-answer,
+--   record-answer, compose-answer, left-part-answer, split-answer, quick-answer, change-polynomial-answer, change-pair-answer,
 --   combine-answer, undo-answer, chain-answer, count-chains-answer, nth-chain-answer, part-answer, write-sheet-answer,
 --   read-sheet-answer, read-text-answer, write-text-answer
 -- Demand 2: the answers are those of Kozen and Landau.
 --   split-exact         where r and s fit and r has no factor in common with m: the pair with h(0) = 0, left and right, exactly if some
 --                       monic g and h of those degrees compose to f; else, and exactly if none do, No. 7 with zeros
+--   quick-exact         the quick yes is the split's, on every input, and so is each refusal but No. 7, in whose place there is a no
+--   quick-report        with a no, the forced pair composed and f agree above the reported power and differ there
+--   quick-zero          the power is 0 exactly with a yes
 --   left-part-exact     the same of the left part for a given h whose degree fits
 --   chain-composes      a chain composes back to f, and none of its parts splits further; the area, read back, gives its parts
 --   nth-chain-composes  the same of the j-th chain
@@ -21,6 +24,7 @@
 -- Demand 3: changing and then asking gives the same as asking first and carrying the change through the parts.
 --   split-carried       for a single split of what change_polynomial answers: a pair exactly if f has one, and it is what change_pair
 --                       answers; every refusal is that of f, "no pair" included
+--   quick-carried       the quick question gives the changed f the same answer: yes or no, and the power
 --   chain-carried, chain-outcome-carried     same parts but for the change, same degrees, same number of tries, same refusal
 --   chain-read-back     the same for what change_polynomial answers, over the parts that the two areas hand out
 --   count-chains-carried, nth-chain-carried     and for the number of complete chains and the j-th of them
@@ -35,8 +39,9 @@
 --   text-read-back      what the writer has written, read, answers the polynomial
 use mathlib.Core.Path.{_≡_, sym, _∙_}
 use mathlib.Core.Logic.{_⊎_, _↔_}
+use mathlib.Core.Bool.{true, false}
 use mathlib.Core.List.{List}
-use Prim.Native.Nat.{ℕ, _*_, _≤_, _<_}
+use Prim.Native.Nat.{ℕ, _*_, _/_, _≤_, _<_}
 use native.Mathlib.Omega.{arith}
 use lib.ListN.{length, take}
 use Rattle.algebra.specs.Number.{Coprime}
@@ -63,6 +68,10 @@ use Rattle.record.proofs.Answers as record-law
 use Rattle.pair.specs.Pairing.{compose, LeftPartOf, Splits}
 use Rattle.pair.proofs.Determined as pair-law
 use Rattle.pair.proofs.Exact as exact-law
+use Rattle.pair.specs.declared.Verdict.{Verdict}
+use Rattle.pair.specs.Asking.{QuickOf}
+use Rattle.pair.proofs.Reports as report-law
+use Rattle.pair.proofs.Reports.{Agree, Reported}
 use Rattle.pair.proofs.Exact.{ExactSplit, ExactLeft}
 use Rattle.change.specs.declared.Change.{Change}
 use Rattle.change.specs.declared.Made.{Made}
@@ -111,6 +120,9 @@ left-part-answer = pair-law.left-part-determined
 pub split-answer : {m r : ℕ} {f : List ℕ} → length f ≡ terms → {x y : Parts} → Splits m f r x → Splits m f r y → x ≡ y
 split-answer = pair-law.split-determined
 
+pub quick-answer : {m r : ℕ} {f : List ℕ} → length f ≡ terms → {x y : Verdict} → QuickOf m f r x → QuickOf m f r y → x ≡ y
+quick-answer = report-law.quick-determined
+
 pub change-polynomial-answer : {m : ℕ} {f : List ℕ} {c : Change} {x y : Answer} → ChangesPolynomial m f c x → ChangesPolynomial m f c y → x ≡ y
 change-polynomial-answer = change-law.change-polynomial-determined
 
@@ -151,6 +163,15 @@ pub write-text-answer : {m : ℕ} {f xs ys zs : List ℕ} {x y : Written} → Wr
 write-text-answer = text-law.write-determined
 
 -- Demand 2
+
+pub quick-exact : {m r : ℕ} {f : List ℕ} → length f ≡ terms → {x : Verdict} {y : Parts} → QuickOf m f r x → Splits m f r y → Agree x y
+quick-exact = report-law.quick-split
+
+pub quick-report : {m r : ℕ} {f : List ℕ} → length f ≡ terms → {x : Verdict} → QuickOf m f r x → x .outcome ≡ Answered → x .splits ≡ false → Reported m f r (degree f / r) (x .power)
+quick-report = report-law.quick-report
+
+pub quick-zero : {m r : ℕ} {f : List ℕ} → length f ≡ terms → {x : Verdict} → QuickOf m f r x → x .outcome ≡ Answered → (x .power ≡ 0) ↔ (x .splits ≡ true)
+quick-zero = report-law.quick-zero
 
 pub split-exact : {m r s : ℕ} {f : List ℕ} → Accepted m f → 2 ≤ r → 2 ≤ s → r * s ≡ degree f → Coprime r m → {x : Parts} → Splits m f r x → ExactSplit m f r s x
 split-exact = exact-law.split-exact
@@ -198,6 +219,10 @@ round-trip = pair-law.round-trip
 pub split-carried : {m : ℕ} {c : Change} {f : List ℕ} {w : Answer} → length f ≡ terms → ChangesPolynomial m f c w → w .outcome ≡ Answered
     → (r : ℕ) {y z : Parts} → Splits m f r y → Splits m (w .polynomial) r z → SplitCarried m c y z
 split-carried long k o = split-law.split-changed (altered long k o)
+
+pub quick-carried : {m : ℕ} {c : Change} {f : List ℕ} {w : Answer} → length f ≡ terms → ChangesPolynomial m f c w → w .outcome ≡ Answered
+    → (r : ℕ) {y z : Verdict} → QuickOf m f r y → QuickOf m (w .polynomial) r z → z ≡ y
+quick-carried long k o = split-law.quick-changed (altered long k o)
 
 -- for any f that the chain accepts: the chain of the changed f has the parts with the change carried from the right
 pub chain-carried : {m a b : ℕ} {f f′ xs ys xs′ ys′ : List ℕ} {x x′ : Chained} → length f ≡ terms → Coprime a m → Changed m (degree f) a b f f′

@@ -2,7 +2,7 @@
 --
 --   Machine f      every coefficient is a machine word, as every u32 is
 --   NotTwo o       the outcome o is not No. 2
---   no-two-compose, no-two-left-part, no-two-split, no-two-change-polynomial, no-two-change-pair, no-two-chain, no-two-count-chains,
+--   no-two-compose, no-two-left-part, no-two-split, no-two-quick, no-two-change-polynomial, no-two-change-pair, no-two-chain, no-two-count-chains,
 --   no-two-nth-chain, no-two-record, no-two-write-sheet, no-two-read-sheet, no-two-write-text, no-two-read-text     so for each operation that checks a polynomial (for the reader: with the word 0 in every place)
 use mathlib.Core.Path.{_≡_, sym, ap, _∙_}
 use mathlib.Core.Bool.{Bool, true, false, not, cond, _&&_, _||_}
@@ -33,6 +33,9 @@ use Rattle.polynomial.proofs.Moduli.{modulus-zero, words-taken}
 use Rattle.polynomial.proofs.Acceptance.{coefficients-words}
 use Rattle.pair.specs.Pairing.{fits, compose, beside, check-left, check-split, LeftPartOf, Splits}
 use Rattle.pair.specs.Pairing as pairing
+use Rattle.pair.specs.declared.Verdict.{Verdict}
+use Rattle.pair.specs.Asking.{QuickOf}
+use Rattle.pair.specs.Asking as quick
 use Rattle.change.specs.declared.Change.{Change}
 use Rattle.change.specs.Changing.{ChangesPolynomial, ChangesPair}
 use Rattle.change.specs.Changing as changing
@@ -128,6 +131,14 @@ no-two-split {f} {r} m (pairing.refused e q) =
 no-two-split m (pairing.shared e n q) = not-as (ap (λ (x : Parts). x .outcome) q) (not-refusal Neither reason.Factor (λ e. omega arith))
 no-two-split m (pairing.none e c n q) = not-as (ap (λ (x : Parts). x .outcome) q) (not-refusal Neither reason.NoPair (λ e. omega arith))
 no-two-split m (pairing.found e c k q) = not-as (ap (λ (x : Parts). x .outcome) q) not-answered
+
+pub no-two-quick : {f : List ℕ} {r : ℕ} {x : Verdict} → Machine f → QuickOf machine-words f r x → NotTwo (x .outcome)
+unfolding check-split
+no-two-quick {f} {r} m (quick.refused e q) =
+    not-as (ap (λ (x : Verdict). x .outcome) q ∙ sym e) (not-then (check-one machine-words f) _ (not-check-one m) (not-refuse (not (fits (degree f) r)) Neither reason.Fit (λ e. omega arith)))
+no-two-quick m (quick.shared e n q) = not-as (ap (λ (x : Verdict). x .outcome) q) (not-refusal Neither reason.Factor (λ e. omega arith))
+no-two-quick m (quick.composes e c k q) = not-as (ap (λ (x : Verdict). x .outcome) q) not-answered
+no-two-quick m (quick.differs e c k q) = not-as (ap (λ (x : Verdict). x .outcome) q) not-answered
 
 pub no-two-change-polynomial : {f : List ℕ} {c : Change} {x : Answer} → Machine f → ChangesPolynomial machine-words f c x → NotTwo (x .outcome)
 unfolding nothing

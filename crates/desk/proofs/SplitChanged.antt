@@ -2,19 +2,23 @@
 --
 --   Altered, altered    f is accepted, and f′ is f changed by c; so is what change_polynomial answers
 --   SplitCarried        what the split of f says of that of f′
+--   quick-changed       the quick question gives the changed f the same answer, whole
 --   split-changed       splitting the changed f gives the changed pair; and every refusal, "no pair" included, is that of f
 use mathlib.Core.Path.{_≡_, refl, sym, ap, _∙_}
 use mathlib.Core.Logic.{_↔_}
+use mathlib.Core.Bool.{false}
 use mathlib.Core.List.{List}
 use Prim.Native.Nat.{ℕ, _/_, _<_}
 use native.Mathlib.Omega.{arith}
 use lib.ListN.{length}
 use Rattle.algebra.specs.Polynomial.{degree, terms, Reduced}
-use Rattle.algebra.specs.Pair.{NormalPair, NoPair}
+use Rattle.algebra.specs.Number.{Coprime}
+use Rattle.algebra.specs.Pair.{NormalPair, NoPair, Report}
 use Rattle.algebra.specs.Change.{Changed, ChangedPair}
 use Rattle.algebra.proofs.Reduction.{degree-monic}
 use Rattle.algebra.proofs.Factors.{coprime-invertible}
 use Rattle.algebra.proofs.Pairs as P
+use Rattle.algebra.proofs.Report.{report-changed}
 use Rattle.refusal.specs.declared.Refusal.{Refusal}
 use Rattle.refusal.specs.declared.Outcome.{Outcome}
 use Rattle.refusal.specs.declared.Outcome.the-variants.{Answered, Refused}
@@ -27,6 +31,10 @@ use Rattle.polynomial.specs.declared.Parts.{Parts}
 use Rattle.polynomial.proofs.Acceptance.{accepted-one, one-accepted, accepted-above, pair-accepted, accepted-changed}
 use Rattle.pair.specs.Pairing.{check-split, Splits}
 use Rattle.pair.specs.Pairing as pairing
+use Rattle.pair.specs.declared.Verdict.{Verdict}
+use Rattle.pair.specs.Asking.{QuickOf}
+use Rattle.pair.specs.Asking as quick
+use Rattle.pair.proofs.Reports.{posed, refutes, quick-determined}
 use Rattle.pair.proofs.Forcing.{fits-below}
 use Rattle.pair.proofs.Determined.{split-accepted, split-determined}
 use Rattle.change.specs.declared.Change.{Change}
@@ -133,3 +141,25 @@ module _ {m : ℕ} {c : Change} {f f′ : List ℕ} (x : Altered m c f f′) whe
         same = λ a v b. change-pair-determined is b;
         refused = λ b. absurd (b o);
       }
+
+  -- where both have a no, the power is the same; a yes of one is a yes of the other
+  same-verdict : (r : ℕ) (e : check-split m f r ≡ Answered) → Coprime r m → {k : ℕ} {y z : Verdict} → Report m r (degree f / r) f k → y ≡ record { outcome = Answered; splits = false; power = k } → QuickOf m f′ r z → z ≡ y
+  same-verdict r e d {k} R p (quick.refused w q) = absurd (never w (same-checks r ∙ e))
+  same-verdict r e d {k} R p (quick.shared w n q) = absurd (n d)
+  same-verdict r e d {k} R p (quick.composes {g = g} {h = h} w n P q) = absurd (unsplit r e (refutes (posed (x .long) e d) R) g h (rw same-degree at P))
+  same-verdict r e d {k} R p (quick.differs w n T q) =
+      let P = posed (x .long) e d in
+      let P′ = posed (x .reduced .long) w d in
+      let T′ : Report m r (degree f / r) f′ _ = rw same-degree at T in
+      let s = report-changed pos (P .left) (P .right) (P .product) (P .unit) (coprime-invertible m pos (x .proper .invertible)) (P .whole) (rw same-degree at (P′ .whole)) (x .changed) R T′ in
+      q ∙ ap (λ (j : ℕ). record { outcome = Answered; splits = false; power = j }) (sym s) ∙ sym p
+
+  pub quick-changed : (r : ℕ) {y z : Verdict} → QuickOf m f r y → QuickOf m f′ r z → z ≡ y
+  quick-changed r (quick.refused e p) s = quick-determined (x .reduced .long) s (quick.refused (same-checks r ∙ e) refl) ∙ sym p
+  quick-changed r (quick.shared e d p) s = quick-determined (x .reduced .long) s (quick.shared (same-checks r ∙ e) d refl) ∙ sym p
+  quick-changed r (quick.composes {g = g} {h = h} e d n p) s =
+      let w = fit r e in
+      let (g′, h′, k, n′) = P.changed-pair-exists pos (omega (arith, w .two-left)) (omega (arith, w .two-right)) (fits-below w .0) (fits-below w .1) (w .product)
+      (coprime-invertible m pos (x .proper .invertible)) n (x .changed) in
+      quick-determined (x .reduced .long) s (quick.composes {g = g′} {h = h′} (same-checks r ∙ e) d (rw same-degree (n′ .pair)) refl) ∙ sym p
+  quick-changed r (quick.differs e d R p) s = same-verdict r e d R p s

@@ -5,6 +5,8 @@
 --   AnswersAs Of r f    what a function for an operation that answers one polynomial returns and writes
 --   MadeAs Of r out     the same for an operation that answers a change: its unit and its origin
 --   PartsAs Of r g h    the same for an operation that answers two parts
+--   said b              1 for a yes, 0 for a no
+--   QuickAs ..          what desk_quick returns and writes
 --   ChainedAs ..        what desk_chain returns and writes
 --   NumberedAs ..       what desk_count_chains returns and writes
 --   ChosenAs ..         what desk_nth_chain returns and writes
@@ -13,6 +15,7 @@
 --   TextAs ..           what desk_write_text returns and writes
 --   place-of xs i       where part i stands in the area xs: its start and its length, 0 and 0 if it is empty
 use mathlib.Core.Path.{_≡_}
+use mathlib.Core.Bool.{Bool, true, false}
 use mathlib.Core.List.{List, [], _∷_}
 use Prim.Native.Nat.{ℕ, zero, suc}
 use lib.ListN.{length}
@@ -21,6 +24,8 @@ use Rattle.refusal.specs.declared.Outcome.{Outcome}
 use Rattle.refusal.specs.declared.Outcome.the-variants.{Answered, Refused}
 use Rattle.polynomial.specs.declared.Answer.{Answer}
 use Rattle.polynomial.specs.declared.Parts.{Parts}
+use Rattle.pair.specs.declared.Verdict.{Verdict}
+use Rattle.pair.specs.Asking.{QuickOf}
 use Rattle.change.specs.declared.Made.{Made}
 use Rattle.chain.specs.declared.Chained.{Chained}
 use Rattle.chain.specs.Chaining.{ChainOf}
@@ -68,6 +73,18 @@ pub record MadeAs (Of : Made → Type 0) (r : face.Refused) (out : List ℕ) : T
   pub is : Of made
   pub refused : r ≡ told (made .outcome)
   pub out-is : out ≡ made .change .unit ∷ made .change .origin ∷ []
+
+-- a yes or a no as a number
+abbrev pub said : Bool → ℕ
+said true = 1
+said false = 0
+
+-- the verdict: whether f splits, and the power; 0 and 0 after a refusal
+pub record QuickAs (m : ℕ) (f : List ℕ) (r : ℕ) (x : face.Refused) (answer : List ℕ) : Type 0 where
+  pub verdict : Verdict
+  pub is : QuickOf m f r verdict
+  pub refused : x ≡ told (verdict .outcome)
+  pub answer-is : answer ≡ said (verdict .splits) ∷ verdict .power ∷ []
 
 -- some chain, in numbers: parts, tries, price; and the area afterwards
 pub record ChainedAs (m : ℕ) (f xs ys : List ℕ) (r : face.Refused) (numbers : List ℕ) : Type 0 where

@@ -4,7 +4,7 @@ ghost use Rattle.polynomial.specs.Moduli.{modulus};
 ghost use Rattle.pair.specs.Pairing.{compose, LeftPartOf, Splits};
 ghost use Rattle.text.specs.Answers.{ReadsText};
 ghost use Rattle.change.specs.Changing.{made, ChangesPolynomial, ChangesPair, Combines, Undoing};
-ghost use Rattle.desk.specs.Face.{told as told-of, CheckedAs, AnswersAs, PartsAs, MadeAs, ChainedAs, NumberedAs, ChosenAs, place-of, WrittenAs, ReadAs, TextAs};
+ghost use Rattle.desk.specs.Face.{told as told-of, said as said-of, QuickAs, CheckedAs, AnswersAs, PartsAs, MadeAs, ChainedAs, NumberedAs, ChosenAs, place-of, WrittenAs, ReadAs, TextAs};
 use change::Change;
 use polynomial::TERMS;
 use refusal::Outcome;
@@ -108,6 +108,25 @@ pub extern "C" fn desk_split(
     let right = a.right;
     *g = left;
     *h = right;
+    let outcome = a.outcome;
+    told(outcome)
+}
+
+// 1 for a yes, 0 for a no.
+fn said(yes: bool) -> usize
+    ensures { λ n. ⌜ n ≡ said-of yes ⌝ }
+{
+    if yes { 1 } else { 0 }
+}
+
+// Whether f splits at the left degree r, 1 or 0, and the highest power at which the forced pair, composed, and f differ.
+#[no_mangle]
+pub extern "C" fn desk_quick(m: u32, f: &[u32; TERMS], r: usize, answer: &mut [usize; 2]) -> Refused
+    ensures { λ x. ⌜ QuickAs (modulus m) (now (f .entry)) r x (now (answer .exit)) ⌝ }
+{
+    let a = pair::quick(m, *f, r);
+    let yes = said(a.splits);
+    *answer = [yes, a.power];
     let outcome = a.outcome;
     told(outcome)
 }

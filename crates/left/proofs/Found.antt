@@ -1,7 +1,7 @@
 -- From the digits to the left part.
 --
 --   constant-place                     where a digit's constant lies
---   asked-division, asked-long         f's places may be divided by h
+--   asked-same, asked-division, asked-long     f's places up to x^n are all of f, and may be divided by h
 --   digits-terms, digits-past          with what lies above x^n the list has all places of a polynomial, and no digit above the r-th
 --   digits-none                        a digit that is no constant refutes every left part
 --   digits-found                       where all are constants, they are the left part
@@ -46,8 +46,8 @@ module _ {m n r s : ℕ} {f h : List ℕ} (asked : LeftAsked m n r s f h) where
   beyond i l = omega (arith, two, asked .degrees .product, N.mul-le-mul-right {m = r + 1} {n = i} s (omega arith))
 
   -- f's places up to x^n are all of f
-  same : Same m (take (n + 1) f) f
-  same = record { at = λ i. ap (λ (x : ℕ). x % m) (go i (decLt i (n + 1))) }
+  pub asked-same : Same m (take (n + 1) f) f
+  asked-same = record { at = λ i. ap (λ (x : ℕ). x % m) (go i (decLt i (n + 1))) }
     where
       go : (i : ℕ) → Dec (i < n + 1) → coef (take (n + 1) f) i ≡ coef f i
       go i (yes l) = getD-take (n + 1) f i 0 l
@@ -81,7 +81,7 @@ module _ {m n r s : ℕ} {f h : List ℕ} (asked : LeftAsked m n r s f h) where
 
   -- a digit that is no constant: no g whatever
   pub digits-none : {q : List ℕ} {t : Bool} → Digits m h s (take (n + 1) f) q t → t ≡ false → NoLeft m f r h
-  digits-none d e g mon w = d .no e g (same ⨾ w)
+  digits-none d e g mon w = d .no e g (asked-same ⨾ w)
 
   -- the digits' constants, which the code picks from the whole list
   pub digits-found : {q g : List ℕ} {t : Bool} → Digits m h s (take (n + 1) f) q t → t ≡ true → g ≡ table terms (λ i. coef (q ++ drop (n + 1) f) (i * s)) → LeftPart m f r h g
@@ -117,7 +117,7 @@ module _ {m n r s : ℕ} {f h : List ℕ} (asked : LeftAsked m n r s f h) where
       all i (no l) = past i (omega arith) ∙ sym (List·getD-eq-default q 0 (omega (arith, wide, beyond i (omega arith))))
 
       whole : Same m f (after g h)
-      whole = same-sym same ⨾ d .yes e g .1 (λ i. ap (λ (x : ℕ). x % m) (all i (decLt i (r + 1))))
+      whole = same-sym asked-same ⨾ d .yes e g .1 (λ i. ap (λ (x : ℕ). x % m) (all i (decLt i (r + 1))))
 
       top : coef (after g h) (r * s) % m ≡ 1 % m
       top = sym (whole .at (r * s)) ∙ rw (asked .degrees .product) (asked .whole .monic .top)

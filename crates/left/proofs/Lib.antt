@@ -3,3 +3,4 @@ pub mod Dividing
 pub mod Raising
 pub mod Expanding
 pub mod Found
+pub mod Reporting

@@ -1,2 +1,3 @@
 pub mod Division
 pub mod Left
+pub mod Report

@@ -5,22 +5,25 @@
 ghost use mathlib.Core.Path.{_≡_};
 ghost use Prim.Native.Nat.{ℕ, _+_, _*_, _≤_, _<_};
 ghost use lib.ListN.{length};
-ghost use Rattle.algebra.specs.Number.{table, Modulus};
+ghost use Rattle.algebra.specs.Number.{table};
 ghost use Rattle.algebra.specs.Polynomial.{coef, limit, terms, Held};
+ghost use Rattle.residue.specs.Ready.{Ready};
 ghost use Rattle.left.specs.Division.{DivisionAsked, Divided, Raised, ConstantIs, Lowest, Digits};
 ghost use Rattle.left.specs.Left.{LeftAsked, LeftAnswer};
+ghost use Rattle.left.specs.Report.{Expanded, HighestAt, LeftReport};
 use polynomial::Answer;
 use polynomial::Coefficients;
 use polynomial::TERMS;
 use refusal::Concerns;
 use refusal::Outcome;
 use refusal::Reason;
+use residue::Divisor;
 
 // p divided by h, of degree s, in place: its lowest s places become the remainder, those above them the quotient. From the top
 // down, each place loses what the quotient's places above it, times h without its leading 1, give there.
-fn divide(p: &mut [u32], h: &[u32], s: usize, m: u64)
-    requires { ⌜ DivisionAsked m s (now h) (now p) × (s ≤ length (now p)) ⌝ }
-    ensures { λ _. ⌜ Divided m (now (h .entry)) s (now (p .entry)) (now (p .exit)) ⌝ }
+fn divide(p: &mut [u32], h: &[u32], s: usize, m: Divisor)
+    requires { ⌜ DivisionAsked (m .number) s (now h) (now p) × (s ≤ length (now p)) × Ready m ⌝ }
+    ensures { λ _. ⌜ Divided (m .number) (now (h .entry)) s (now (p .entry)) (now (p .exit)) ⌝ }
 {
     let mut i = p.len();
     while 0 < i {
@@ -29,7 +32,7 @@ fn divide(p: &mut [u32], h: &[u32], s: usize, m: u64)
         let hi = polynomial::smaller(s, i);
         i -= 1;
         let x = residue::inner_product(h, p, end - 1, lo, hi, m);
-        p[i] = residue::subtract(p[i], x, m);
+        p[i] = residue::subtract(p[i], x, m.number);
     }
 }
 
@@ -48,18 +51,18 @@ fn is_constant(p: &[u32]) -> bool
 }
 
 // The lowest digit of p, and above it the quotient; "no" if the digit is no constant.
-fn digit(p: &mut [u32], h: &[u32], s: usize, m: u64) -> bool
-    requires { ⌜ DivisionAsked m s (now h) (now p) × (s ≤ length (now p)) ⌝ }
-    ensures { λ t. ⌜ Lowest m (now (h .entry)) s 1 (now (p .entry)) (now (p .exit)) t ⌝ }
+fn digit(p: &mut [u32], h: &[u32], s: usize, m: Divisor) -> bool
+    requires { ⌜ DivisionAsked (m .number) s (now h) (now p) × (s ≤ length (now p)) × Ready m ⌝ }
+    ensures { λ t. ⌜ Lowest (m .number) (now (h .entry)) s 1 (now (p .entry)) (now (p .exit)) t ⌝ }
 {
     divide(p, h, s, m);
     is_constant(&p[..s])
 }
 
 // All digits of p, one by one; one that is no constant ends it with "no".
-fn digits(p: &mut [u32], h: &[u32], s: usize, m: u64) -> bool
-    requires { ⌜ DivisionAsked m s (now h) (now p) ⌝ }
-    ensures { λ t. ⌜ Digits m (now (h .entry)) s (now (p .entry)) (now (p .exit)) t ⌝ }
+fn digits(p: &mut [u32], h: &[u32], s: usize, m: Divisor) -> bool
+    requires { ⌜ DivisionAsked (m .number) s (now h) (now p) × Ready m ⌝ }
+    ensures { λ t. ⌜ Digits (m .number) (now (h .entry)) s (now (p .entry)) (now (p .exit)) t ⌝ }
 {
     let mut at = 0;
     while s < p.len() - at {
@@ -72,9 +75,9 @@ fn digits(p: &mut [u32], h: &[u32], s: usize, m: u64) -> bool
 }
 
 // The lowest k digits of p at once: the remainder by b = h^k has them. If they are constants, it ends where h^(k-1) does.
-fn block(p: &mut [u32], h: &[u32], b: &[u32], k: usize, s: usize, m: u64) -> bool
-    requires { ⌜ DivisionAsked m s (now h) (now p) × Raised m (now h) s k (now b) × (0 < k) × (k * s ≤ length (now p)) ⌝ }
-    ensures { λ t. ⌜ Lowest m (now (h .entry)) s k (now (p .entry)) (now (p .exit)) t ⌝ }
+fn block(p: &mut [u32], h: &[u32], b: &[u32], k: usize, s: usize, m: Divisor) -> bool
+    requires { ⌜ DivisionAsked (m .number) s (now h) (now p) × Raised (m .number) (now h) s k (now b) × (0 < k) × (k * s ≤ length (now p)) × Ready m ⌝ }
+    ensures { λ t. ⌜ Lowest (m .number) (now (h .entry)) s k (now (p .entry)) (now (p .exit)) t ⌝ }
 {
     let w = k * s;
     divide(p, b, w, m);
@@ -86,9 +89,9 @@ fn block(p: &mut [u32], h: &[u32], b: &[u32], k: usize, s: usize, m: u64) -> boo
 }
 
 // All digits of p, k at once by b = h^k as long as there are more than k, and the others one by one.
-fn blocks(p: &mut [u32], h: &[u32], b: &[u32], k: usize, s: usize, m: u64) -> bool
-    requires { ⌜ DivisionAsked m s (now h) (now p) × Raised m (now h) s k (now b) × (0 < k) ⌝ }
-    ensures { λ t. ⌜ Digits m (now (h .entry)) s (now (p .entry)) (now (p .exit)) t ⌝ }
+fn blocks(p: &mut [u32], h: &[u32], b: &[u32], k: usize, s: usize, m: Divisor) -> bool
+    requires { ⌜ DivisionAsked (m .number) s (now h) (now p) × Raised (m .number) (now h) s k (now b) × (0 < k) × Ready m ⌝ }
+    ensures { λ t. ⌜ Digits (m .number) (now (h .entry)) s (now (p .entry)) (now (p .exit)) t ⌝ }
 {
     let w = k * s;
     let mut at = 0;
@@ -102,9 +105,9 @@ fn blocks(p: &mut [u32], h: &[u32], b: &[u32], k: usize, s: usize, m: u64) -> bo
 }
 
 // b, which is h, becomes h^k.
-fn raise(b: &mut [u32], h: &[u32], k: usize, s: usize, m: u64)
-    requires { ⌜ Modulus m × Held m s (now h) × (now b ≡ now h) × (0 < k) × (k * s ≤ limit) ⌝ }
-    ensures { λ _. ⌜ Raised m (now (h .entry)) s k (now (b .exit)) ⌝ }
+fn raise(b: &mut [u32], h: &[u32], k: usize, s: usize, m: Divisor)
+    requires { ⌜ Ready m × Held (m .number) s (now h) × (now b ≡ now h) × (0 < k) × (k * s ≤ limit) ⌝ }
+    ensures { λ _. ⌜ Raised (m .number) (now (h .entry)) s k (now (b .exit)) ⌝ }
 {
     for i in 1..k {
         composition::step(b, 0, h, s, (i + 1) * s, m);
@@ -130,9 +133,9 @@ fn at_once(r: usize) -> usize
 }
 
 // All digits of p, of degree r * s: the first by itself, since most polynomials that are no g(h) show it there.
-fn expand(p: &mut [u32], h: &Coefficients, r: usize, s: usize, m: u64) -> bool
-    requires { ⌜ DivisionAsked m s (now h) (now p) × (length (now p) ≡ r * s + 1) × (0 < r) ⌝ }
-    ensures { λ t. ⌜ Digits m (now (h .entry)) s (now (p .entry)) (now (p .exit)) t ⌝ }
+fn expand(p: &mut [u32], h: &Coefficients, r: usize, s: usize, m: Divisor) -> bool
+    requires { ⌜ DivisionAsked (m .number) s (now h) (now p) × (length (now p) ≡ r * s + 1) × (0 < r) × Ready m ⌝ }
+    ensures { λ t. ⌜ Digits (m .number) (now (h .entry)) s (now (p .entry)) (now (p .exit)) t ⌝ }
 {
     if !digit(p, h, s, m) {
         return false;
@@ -159,9 +162,16 @@ fn constants(a: &[u32], r: usize, s: usize) -> Coefficients
 }
 
 // The left part of f, of degree n = r * s, for the right part h of degree s; No. 7 if there is none.
-pub fn left_part(f: Coefficients, h: Coefficients, n: usize, r: usize, s: usize, m: u64) -> Answer
-    requires { ⌜ LeftAsked m n r s f h ⌝ }
-    ensures { λ x. ⌜ LeftAnswer m f r h x ⌝ }
+pub fn left_part(
+    f: Coefficients,
+    h: Coefficients,
+    n: usize,
+    r: usize,
+    s: usize,
+    m: Divisor,
+) -> Answer
+    requires { ⌜ LeftAsked (m .number) n r s f h × Ready m ⌝ }
+    ensures { λ x. ⌜ LeftAnswer (m .number) f r h x ⌝ }
 {
     let mut a = f;
     if !expand(&mut a[..n + 1], &h, r, s, m) {
@@ -171,4 +181,49 @@ pub fn left_part(f: Coefficients, h: Coefficients, n: usize, r: usize, s: usize,
         outcome: Outcome::Answered,
         polynomial: constants(&a, r, s),
     }
+}
+
+// All digits of p, constants or not.
+fn all_digits(p: &mut [u32], h: &[u32], s: usize, m: Divisor)
+    requires { ⌜ DivisionAsked (m .number) s (now h) (now p) × Ready m ⌝ }
+    ensures { λ _. ⌜ Expanded (m .number) (now (h .entry)) s (now (p .entry)) (now (p .exit)) ⌝ }
+{
+    let mut at = 0;
+    while s < p.len() - at {
+        divide(&mut p[at..], h, s, m);
+        at += s;
+    }
+}
+
+// The highest place of the digits in p that has a number and is no digit's constant: the degree of the highest digit that is none.
+fn highest(p: &[u32], r: usize, s: usize) -> usize
+    requires { ⌜ (length (now p) ≡ r * s + 1) × (0 < s) × (r * s ≤ limit) ⌝ }
+    ensures { λ k. ⌜ HighestAt s (now (p .entry)) k ⌝ }
+{
+    let mut j = r;
+    while j != 0 {
+        j -= 1;
+        let at = j * s;
+        let end = at + s;
+        let d = polynomial::degree(&p[at..end]);
+        if d != 0 {
+            return at + d;
+        }
+    }
+    0
+}
+
+// The highest power at which f, of degree n = r * s, and g(h) differ for the forced left part g; 0 if f = g(h). The digits up to the
+// first that is no constant are taken first, as for a left part: all of them are wanted for a report alone.
+pub fn report(f: Coefficients, h: Coefficients, n: usize, r: usize, s: usize, m: Divisor) -> usize
+    requires { ⌜ LeftAsked (m .number) n r s f h × Ready m ⌝ }
+    ensures { λ k. ⌜ LeftReport (m .number) f r s h k ⌝ }
+{
+    let mut a = f;
+    if expand(&mut a[..n + 1], &h, r, s, m) {
+        return 0;
+    }
+    let mut b = f;
+    all_digits(&mut b[..n + 1], &h, s, m);
+    highest(&b[..n + 1], r, s)
 }

@@ -1,24 +1,28 @@
 -- What the code has found after each test, as the contracts say it: one law for each return.
 --
+--   told-blank                       what the chain finds in an area of zeros
 --   Fitting, told-answered           the numbers of an answered chain fit a line
 --   told-unchained, told-chained     an accepted record: its chain is refused; it has one
 --   told-refused, told-accepted      a record that its check refuses; one that it accepts
-use mathlib.Core.Path.{_≡_, refl, ap, _∙_}
+use mathlib.Core.Path.{_≡_, refl, sym, ap, _∙_}
 use mathlib.Core.Bool.{Bool, true, false}
-use mathlib.Core.List.{List, [], _∷_, _++_}
+use mathlib.Core.List.{List, [], _∷_, _++_, append-nil}
 use Prim.Native.Nat.{ℕ, _*_, _≤_}
 use native.Mathlib.Omega.{arith}
-use lib.ListN.{length, drop}
+use lib.ListN.{length, drop, drop-of-length-le, length-replicate}
 use Rattle.algebra.specs.Number.{table}
 use Rattle.algebra.specs.Polynomial.{degree, terms, limit}
 use Rattle.refusal.specs.Refusal.{is-refused}
+use Rattle.refusal.specs.declared.Outcome.the-variants.{Answered}
 use Rattle.refusal.proofs.Outcomes.{answered, a-refusal, refused-by}
 use Rattle.digits.specs.Digits.{Put}
 use Rattle.polynomial.specs.Moduli.{modulus}
+use Rattle.polynomial.specs.Checks.{check-one}
 use Rattle.polynomial.proofs.Acceptance.{accepted-above, degree-fits}
-use Rattle.area.specs.Area.{most-parts, place, laid}
+use Rattle.area.specs.Area.{most-parts, area-words, place, cleared, laid}
 use Rattle.chain.specs.declared.Chained.{Chained}
-use Rattle.chain.specs.Chaining.{ChainOf}
+use Rattle.chain.specs.Chaining.{ChainFound, ChainOf}
+use Rattle.chain.proofs.Answering.{told-found}
 use Rattle.chain.proofs.Placing.{chained-within}
 use Rattle.chain.proofs.Promises.{chain-complete}
 use Rattle.record.specs.declared.Checked.{Checked}
@@ -29,6 +33,18 @@ use Rattle.listing.specs.Listing.{blank, number-of, LineIn, AcceptedIn}
 use Rattle.listing.specs.Listing as of
 
 -- ---- the chain of an accepted record
+
+blank-long : length blank ≤ area-words
+blank-long = let e : length blank ≡ area-words = length-replicate area-words 0 in omega arith
+
+-- an area of zeros is cleared already
+blank-cleared : blank ≡ cleared blank
+unfolding cleared
+blank-cleared = sym (append-nil blank) ∙ ap (_++_ blank) (sym (drop-of-length-le blank {i = area-words} blank-long))
+
+-- what the search finds in it answers: the chain
+pub told-blank : {m n : ℕ} {f ys : List ℕ} {x : Chained} → check-one m f ≡ Answered → n ≡ degree f → ChainFound m n f blank ys x → ChainOf m f blank ys x
+told-blank e n-is k = told-found (let l : length blank ≡ area-words = length-replicate area-words 0 in omega arith) (sym e) refl n-is blank-cleared k
 
 -- its numbers are no larger than a line has room for
 pub record Fitting (f : List ℕ) (x : Chained) : Type 0 where

@@ -5,11 +5,16 @@ ghost use Prim.Native.Nat.{_+_, _*_, _<_, _≤_, _^_};
 ghost use lib.ListN.{length};
 ghost use Rattle.algebra.specs.Number.{table};
 ghost use Rattle.algebra.specs.Polynomial.{degree as degree-of};
+ghost use Rattle.refusal.specs.declared.Outcome.the-variants.{Answered};
+ghost use Rattle.binomial.specs.Triangle.{rows, triangle};
+ghost use Rattle.polynomial.specs.Moduli.{modulus};
+ghost use Rattle.polynomial.specs.Checks.{check-one};
 ghost use Rattle.digits.specs.Digits.{decimal, Put};
 ghost use Rattle.area.specs.Area.{most-parts, area-words, place};
 ghost use Rattle.record.specs.Record.{record-bytes};
 ghost use Rattle.listing.specs.Listing.{number-of, LineIn, AcceptedIn, most-records, most-lines, LinesIn, RecordEnd};
 ghost use Rattle.listing.specs.Text.{most-field, before-degrees, most-line, spaced as spaced-of, fields};
+use binomial::ENTRIES;
 use polynomial::Coefficients;
 use polynomial::TERMS;
 use refusal::Outcome;
@@ -120,13 +125,21 @@ fn number_of(o: Outcome) -> u32
     }
 }
 
-// The line of a record that its check accepts: m and f are its words, n the degree of f.
-fn accepted_line(m: u32, f: Coefficients, n: usize, number: u32, out: &mut [u8]) -> usize
-    requires { ⌜ (n ≡ degree-of f) × (most-line ≤ length (now out)) ⌝ }
+// The line of a record that its check accepts, so that the chain does not check it again: m and f are its words, n the degree of f.
+fn accepted_line(
+    m: u32,
+    f: Coefficients,
+    n: usize,
+    number: u32,
+    binomials: &[u64; ENTRIES],
+    out: &mut [u8],
+) -> usize
+    requires { ⌜ (check-one (modulus m) f ≡ Answered) × (n ≡ degree-of f) × (most-line ≤ length (now out)) × (now binomials ≡ triangle rows) ⌝ }
     ensures { λ r. ⌜ AcceptedIn m f number (now (out .entry)) (now (out .exit)) r ⌝ }
 {
     let mut area = [0; area::WORDS];
-    let c = chain::chain(m, f, &mut area);
+    let d = residue::made_ready(polynomial::modulus(m));
+    let c = chain::accepted(f, n, &mut area, binomials, d);
     let o = c.outcome;
     if refusal::refuses(o) {
         return refused_line(number, number_of(o), out);
@@ -141,8 +154,8 @@ fn accepted_line(m: u32, f: Coefficients, n: usize, number: u32, out: &mut [u8])
 }
 
 // The line of the record in the given bytes; answers its length.
-pub fn line(bytes: &[u8], number: u32, out: &mut [u8]) -> usize
-    requires { ⌜ most-line ≤ length (now out) ⌝ }
+pub fn line(bytes: &[u8], number: u32, binomials: &[u64; ENTRIES], out: &mut [u8]) -> usize
+    requires { ⌜ (most-line ≤ length (now out)) × (now binomials ≡ triangle rows) ⌝ }
     ensures { λ r. ⌜ LineIn (now (bytes .entry)) number (now (out .entry)) (now (out .exit)) r ⌝ }
 {
     let c = record::check(bytes);
@@ -151,7 +164,7 @@ pub fn line(bytes: &[u8], number: u32, out: &mut [u8]) -> usize
         return refused_line(number, number_of(o), out);
     }
     let f = c.polynomial;
-    accepted_line(c.modulus, f, c.degree, number, out)
+    accepted_line(c.modulus, f, c.degree, number, binomials, out)
 }
 
 // Where the record that starts at `at` ends, in n bytes.
@@ -166,9 +179,11 @@ fn record_end(at: usize, n: usize) -> usize
     }
 }
 
-// The lines of the records that s is cut into, of which the last may be short; answers their length.
-pub fn lines(s: &[u8], number: u32, out: &mut [u8]) -> usize
+// The lines of the records that s is cut into, of which the last may be short; answers their length. The table of binomials is lent:
+// a program fetches it once.
+pub fn lines(s: &[u8], number: u32, binomials: &[u64; ENTRIES], out: &mut [u8]) -> usize
     requires { ⌜ (length (now s) ≤ most-records * record-bytes) × (most-lines ≤ length (now out)) × (number + most-records < 2 ^ 32) ⌝ }
+    requires { ⌜ now binomials ≡ triangle rows ⌝ }
     ensures { λ r. ⌜ LinesIn (now (s .entry)) number (now (out .entry)) (now (out .exit)) r ⌝ }
 {
     let mut at = 0;
@@ -176,7 +191,7 @@ pub fn lines(s: &[u8], number: u32, out: &mut [u8]) -> usize
     let mut w = 0;
     while at < s.len() {
         let end = record_end(at, s.len());
-        w += line(&s[at..end], k, &mut out[w..]);
+        w += line(&s[at..end], k, binomials, &mut out[w..]);
         at = end;
         k += 1;
     }

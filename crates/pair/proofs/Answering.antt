@@ -3,15 +3,18 @@
 --   fit-stopped, fit-refused, fit-passed     the checks before No. 6, and No. 6 itself
 --   composed-refused, composed-told          the answer to: compose
 --   left-refused, left-misfit, left-told     the answer to: the left part
---   split-refused, split-misfit, split-told  the answer to: a split
+--   checked-refused, checked-fit, checked-misfit     the checks of a split
+--   split-refused, split-told                the answer to: a split
+--   quick-refused, quick-shared, quick-told  the answer to: the quick question
 use mathlib.Core.Path.{_≡_, sym, ap, _∙_}
 use mathlib.Core.Bool.{Bool, true, false, not}
 use mathlib.Core.List.{List}
 use Prim.Native.Nat.{ℕ, _/_}
+use Rattle.algebra.specs.Number.{Coprime}
 use Rattle.algebra.specs.Polynomial.{degree}
 use Rattle.refusal.specs.Refusal.{refusal, refuse, _then_, is-refused}
 use Rattle.refusal.specs.declared.Concerns.the-variants.{Neither}
-use Rattle.refusal.specs.declared.Reason.the-variants.{Fit}
+use Rattle.refusal.specs.declared.Reason.the-variants.{Fit, Factor}
 use Rattle.refusal.specs.declared.Outcome.{Outcome}
 use Rattle.refusal.specs.declared.Outcome.the-variants.{Answered}
 use Rattle.refusal.proofs.Outcomes.{then-refused, then-answered, a-refusal, answered}
@@ -24,6 +27,9 @@ use Rattle.left.specs.Left as left
 use Rattle.composition.specs.Composition.{composition}
 use Rattle.pair.specs.Pairing.{fits, compose, check-left, LeftPartOf, check-split, Splits, SplitAnswer}
 use Rattle.pair.specs.Pairing as of
+use Rattle.pair.specs.declared.Verdict.{Verdict}
+use Rattle.pair.specs.Asking.{unasked, QuickOf, QuickAnswer}
+use Rattle.pair.specs.Asking as quick
 
 module _ {checks o : Outcome} (e : o ≡ checks) where
   fit-stopped : (b : Bool) → is-refused o ≡ true → (checks then refuse (not b) Neither Fit) ≡ o
@@ -65,24 +71,43 @@ module _ (m : ℕ) (f h : List ℕ) {n s : ℕ} {o : Outcome} (o-is : o ≡ chec
     left-told t (left.none a e) = of.none (left-passed t) (rw (← n-is, ← s-is) a) e
     left-told t (left.found {g = g} a e) = of.found {g = g} (left-passed t) (rw (← n-is, ← s-is) a) e
 
+-- the checks of a split
 module _ (m : ℕ) (f : List ℕ) (r : ℕ) {n : ℕ} {o : Outcome} (o-is : o ≡ check-one m f) (n-is : n ≡ degree f) where
-  pub split-refused : {x : Parts} → is-refused o ≡ true → x ≡ no-parts o → Splits m f r x
+  pub checked-refused : is-refused o ≡ true → o ≡ check-split m f r
   unfolding check-split
-  split-refused t e = let (q, w) = a-refusal o t in of.refused (fit-stopped o-is (fits (degree f) r) t ∙ w) (e ∙ ap no-parts w)
+  checked-refused t = sym (fit-stopped o-is (fits (degree f) r) t)
 
   module _ {b : Bool} (b-is : b ≡ fits n r) (fine : is-refused o ≡ false) where
     alike : fits (degree f) r ≡ b
     alike = rw (← n-is) (sym b-is)
 
-    pub split-misfit : {p : Outcome} {x : Parts} → b ≡ false → p ≡ refusal Neither Fit → x ≡ no-parts p → Splits m f r x
+    pub checked-fit : b ≡ true → o ≡ check-split m f r
     unfolding check-split
-    split-misfit t q e = of.refused (fit-refused o-is fine (alike ∙ t)) (e ∙ ap no-parts q)
+    checked-fit t = answered fine ∙ sym (fit-passed o-is fine (alike ∙ t))
 
-    split-passed : b ≡ true → check-split m f r ≡ Answered
+    pub checked-misfit : {p : Outcome} → b ≡ false → p ≡ refusal Neither Fit → p ≡ check-split m f r
     unfolding check-split
-    split-passed t = fit-passed o-is fine (alike ∙ t)
+    checked-misfit t q = q ∙ sym (fit-refused o-is fine (alike ∙ t))
 
-    pub split-told : {x : Parts} → b ≡ true → SplitAnswer m f r (n / r) x → Splits m f r x
-    split-told t (of.shared a e) = of.shared (split-passed t) a e
-    split-told t (of.none a p e) = of.none (split-passed t) a (rw (← n-is) p) e
-    split-told t (of.found {g = g} {h = h} a p e) = of.found {g = g} {h = h} (split-passed t) a (rw (← n-is) p) e
+-- and what is answered after them
+module _ (m : ℕ) (f : List ℕ) (r : ℕ) {o : Outcome} (o-is : o ≡ check-split m f r) where
+  passed : is-refused o ≡ false → check-split m f r ≡ Answered
+  passed fine = sym o-is ∙ answered fine
+
+  pub split-refused : {x : Parts} → is-refused o ≡ true → x ≡ no-parts o → Splits m f r x
+  split-refused t e = let (q, w) = a-refusal o t in of.refused (sym o-is ∙ w) (e ∙ ap no-parts w)
+
+  pub split-told : {n : ℕ} {x : Parts} → n ≡ degree f → is-refused o ≡ false → SplitAnswer m f r (n / r) x → Splits m f r x
+  split-told n-is t (of.shared a e) = of.shared (passed t) a e
+  split-told n-is t (of.none a p e) = of.none (passed t) a (rw (← n-is) p) e
+  split-told n-is t (of.found {g = g} {h = h} a p e) = of.found {g = g} {h = h} (passed t) a (rw (← n-is) p) e
+
+  pub quick-refused : {x : Verdict} → is-refused o ≡ true → x ≡ unasked o → QuickOf m f r x
+  quick-refused t e = let (q, w) = a-refusal o t in quick.refused (sym o-is ∙ w) (e ∙ ap unasked w)
+
+  pub quick-shared : {p : Outcome} {x : Verdict} → is-refused o ≡ false → (Coprime r m → ⊥) → p ≡ refusal Neither Factor → x ≡ unasked p → QuickOf m f r x
+  quick-shared t n w e = quick.shared (passed t) n (e ∙ ap unasked w)
+
+  pub quick-told : {n : ℕ} {x : Verdict} → n ≡ degree f → is-refused o ≡ false → Coprime r m → QuickAnswer m f r (n / r) x → QuickOf m f r x
+  quick-told n-is t c (quick.found {g = g} {h = h} p e) = quick.composes {g = g} {h = h} (passed t) c (rw (← n-is) p) e
+  quick-told n-is t c (quick.apart {k = k} p e) = quick.differs {k = k} (passed t) c (rw (← n-is) p) e

@@ -3,18 +3,19 @@
 --   compose-determined       two answers to: compose g and h, are equal
 --   left-part-determined     two answers to: the left part, are equal
 --   split-determined         two answers to: a split, are equal
---   split-accepted           what passes the checks of a split
+--   split-accepted, split-modulus, split-given     what passes the checks of a split, and what the search is given then
 --   degrees-swap             r and s fit as s and r do
 --   accepted-left, accepted-split                      what is accepted, with degrees that fit, passes the checks of the left part, of a split
 --   composed-is, composed-reduced, composed-same       what is answered for a pair within the limit; it is reduced, and is g(h)
 --   round-trip               composing a pair with h(0) = 0 and splitting it at r gives that pair back
 use mathlib.Core.Path.{_≡_, refl, sym, ap, ap₂, _∙_}
+use mathlib.Core.Bool.{false}
 use mathlib.Core.List.{List}
 use Prim.Native.Nat.{ℕ, _*_, _/_, _≤_, _<_}
 use native.Mathlib.Nat as N
 use native.Mathlib.Omega.{arith}
 use lib.ListN.{length}
-use Rattle.algebra.specs.Number.{Coprime}
+use Rattle.algebra.specs.Number.{Coprime, Modulus}
 use Rattle.algebra.specs.Polynomial.{after, degree, terms, limit, Same, Monic, Reduced}
 use Rattle.algebra.specs.Pair.{Normal, NormalPair}
 use Rattle.algebra.proofs.Polynomials.{same-sym, monic-same}
@@ -22,18 +23,20 @@ use Rattle.algebra.proofs.Coefficients.{after-monic}
 use Rattle.algebra.proofs.Reduction.{reduced-reduced, reduced-same, degree-monic}
 use Rattle.algebra.proofs.Factors.{coprime-invertible}
 use Rattle.algebra.proofs.Pairs as P
+use Rattle.refusal.specs.Refusal.{is-refused}
 use Rattle.refusal.specs.declared.Refusal.{Refusal}
 use Rattle.refusal.specs.declared.Outcome.{Outcome}
 use Rattle.refusal.specs.declared.Outcome.the-variants.{Answered, Refused}
-use Rattle.refusal.proofs.Outcomes.{never, then-both, refuse-answered}
+use Rattle.refusal.proofs.Outcomes.{never, answered, then-both, refuse-answered}
 use Rattle.polynomial.specs.Checks.{check-one, check-two, Accepted}
 use Rattle.polynomial.specs.Answers.{nothing, no-parts}
 use Rattle.polynomial.specs.Degrees.{Degrees}
 use Rattle.polynomial.specs.declared.Answer.{Answer}
 use Rattle.polynomial.specs.declared.Parts.{Parts}
-use Rattle.polynomial.proofs.Acceptance.{accepted-one, one-accepted, accepted-two, two-accepted, accepted-above, degree-fits, pair-accepted}
+use Rattle.polynomial.proofs.Acceptance.{accepted-modulus, accepted-one, accepted-as, one-accepted, accepted-two, two-accepted, accepted-above, degree-fits, pair-accepted}
 use Rattle.composition.specs.Composition.{composition}
-use Rattle.pair.specs.Pairing.{compose, check-left, LeftPartOf, check-split, Splits}
+use Rattle.binomial.specs.Triangle.{rows, triangle}
+use Rattle.pair.specs.Pairing.{compose, check-left, LeftPartOf, check-split, Splits, SplitAsked}
 use Rattle.pair.specs.Pairing as of
 use Rattle.pair.proofs.Fitting.{fits-degrees, degrees-fit}
 use borrow.Author.Tests.{not-false}
@@ -94,6 +97,13 @@ module _ {m : ℕ} {f : List ℕ} {r : ℕ} (lf : length f ≡ terms) where
       let a = accepted-one lf one in
       (a, fits-degrees _ _ (not-false _ (refuse-answered _ _ _ six)) (degree-fits a) .1)
 
+  -- and what the search is given then
+  pub split-given : {n : ℕ} {o : Outcome} {t : List ℕ} → o ≡ check-split m f r → is-refused o ≡ false → n ≡ degree f → t ≡ triangle rows → SplitAsked m n r (n / r) f t
+  split-given e fine n-is b =
+      let (a, d) = split-accepted (sym e ∙ answered fine) in
+      let (w, held, two) = accepted-as n-is a in
+      record { modulus = w; degrees = rw n-is d; whole = held; binomials = b }
+
   pub split-determined : {x y : Parts} → Splits m f r x → Splits m f r y → x ≡ y
   split-determined (of.refused e p) (of.refused k q) = p ∙ ap no-parts (one-refusal e k) ∙ sym q
   split-determined (of.refused e p) (of.shared k c q) = absurd (never e k)
@@ -118,6 +128,10 @@ module _ {m : ℕ} {f : List ℕ} {r : ℕ} (lf : length f ≡ terms) where
           let (a, w) = split-accepted e in
           let one = accepted-above a in
           P.pair-unique (omega arith) (omega (arith, w .two-left)) (omega (arith, w .two-right)) (coprime-invertible m (omega arith) c) n l
+
+-- the modulus, too
+pub split-modulus : {m : ℕ} (f : List ℕ) (r : ℕ) {o : Outcome} → length f ≡ terms → o ≡ check-split m f r → is-refused o ≡ false → Modulus m
+split-modulus f r long e fine = accepted-modulus (split-accepted {f = f} {r = r} long (sym e ∙ answered fine) .0 .modulus)
 
 -- composing and splitting
 module _ {m : ℕ} {g h : List ℕ} (ag : Accepted m g) (ah : Accepted m h) (fit : degree g * degree h ≤ limit) where

@@ -4,29 +4,42 @@
 --   fits-below       degrees that fit are within the limit
 --   forced-none      no left part for the forced right part: no pair at all
 --   forced-refused, forced-found     so the left part's answer for it answers the split
-use mathlib.Core.Path.{_≡_, sym, ap, _∙_}
-use mathlib.Core.Bool.{true, false, true≢false}
+--   inverse-left     s times an inverse of n is one of r
+--   asked-root, asked-left           what the root and the left part are given
+--   root-none        no pair at all where the root says no
+--   root-apart, report-told          the quick question: a no of the root, and what the digits tell
+use mathlib.Core.Path.{_≡_, refl, sym, ap, _∙_}
+use mathlib.Core.Bool.{Bool, true, false, true≢false}
 use mathlib.Core.List.{List}
-use Prim.Native.Nat.{ℕ, _<_}
+use Prim.Native.Nat.{ℕ, _*_, _-_, _%_, _<_}
 use native.Mathlib.Nat as N
 use native.Mathlib.Omega.{arith}
-use Rattle.algebra.specs.Number.{Coprime}
-use Rattle.algebra.specs.Polynomial.{terms}
-use Rattle.algebra.specs.Pair.{NormalPair, NoPair}
+use lib.Dec.{eqb}
+use borrow.Author.Tests.{ne-eqb}
+use Rattle.algebra.specs.Number.{Coprime, Modulus}
+use Rattle.algebra.specs.Polynomial.{terms, Monic, Held}
+use Rattle.algebra.specs.Pair.{NormalPair, NoPair, Report}
 use Rattle.algebra.proofs.Polynomials.{_⨾_, same-refl, after-same}
 use Rattle.algebra.proofs.Factors.{coprime-invertible}
+use Rattle.algebra.proofs.Numbers.{mod-mul-mod}
 use Rattle.algebra.proofs.Pairs.{no-normal-pair}
+use Rattle.algebra.proofs.Report.{report-above, report-refutes}
 use Rattle.algebra.proofs.RightPart as R
 use Rattle.polynomial.specs.Degrees.{Degrees}
 use Rattle.refusal.specs.Refusal.{is-refused}
+use Rattle.refusal.specs.declared.Outcome.the-variants.{Answered}
 use Rattle.polynomial.specs.Answers.{nothing, no-parts}
 use Rattle.polynomial.specs.declared.Answer.{Answer}
 use Rattle.polynomial.specs.declared.Parts.{Parts}
-use Rattle.left.specs.Left.{LeftPart, NoLeft, LeftAnswer}
+use Rattle.left.specs.Left.{LeftPart, NoLeft, LeftAsked, LeftAnswer}
+use Rattle.left.specs.Report.{LeftReport}
+use Rattle.left.specs.Report as digits
 use Rattle.left.specs.Left as left
-use Rattle.right.specs.Right.{RightPart}
-use Rattle.pair.specs.Pairing.{SplitAnswer}
+use Rattle.right.specs.Right.{RightAsked, RightPart, Root}
+use Rattle.pair.specs.Pairing.{SplitAsked, Opened, SplitAnswer}
 use Rattle.pair.specs.Pairing as of
+use Rattle.pair.specs.Asking.{QuickAnswer}
+use Rattle.pair.specs.Asking as quick
 
 pub forced-pair : {m r s : ℕ} {f g h : List ℕ} → RightPart m f r s h → LeftPart m f r h g → NormalPair m f r s g h
 forced-pair right left = record {
@@ -68,3 +81,43 @@ module _ {m n r s : ℕ} {f h : List ℕ} {a : Answer} (two : 1 < m) (d : Degree
   unfolding nothing
   forced-found t (left.none none k) = absurd (true≢false (sym (ap (λ (a : Answer). is-refused (a .outcome)) k) ∙ t))
   forced-found t (left.found g k) = of.found c (forced-pair right g) (rw k)
+
+-- n·v = 1 and r·s = n
+pub inverse-left : {m n : ℕ} (r s : ℕ) {u : ℕ} (v : ℕ) → 1 < m → r * s ≡ n → n * v % m ≡ 1 → u ≡ v * s % m → u * r % m ≡ 1 % m
+inverse-left {m} {n} r s {u} v l e w q =
+    let f : v * s * r ≡ r * s * v = omega arith in
+    ap (λ (x : ℕ). x * r % m) q ∙ mod-mul-mod (v * s) r m ∙ ap (λ (x : ℕ). x % m) f ∙ ap (λ (x : ℕ). x * v % m) e ∙ w ∙ sym (N.mod-eq-of-lt l)
+
+module _ {m n r s : ℕ} {f table : List ℕ} (asked : SplitAsked m n r s f table) where
+  pub asked-root : {u : ℕ} → u * r % m ≡ 1 % m → RightAsked m n r s u f
+  asked-root w = record { modulus = asked .modulus; degrees = asked .degrees; reduced = asked .whole .reduced; inverse = w }
+
+  whole : Monic m (r * s) f
+  whole = rw (asked .degrees .product) (asked .whole .monic)
+
+  -- a no of the root
+  pub root-apart : {a : List ℕ} {b : Bool} {k : ℕ} → Root m f r s a b → b ≡ false → k ≡ n - s - 1 → Report m r s f k
+  root-apart R t e = rw (e, ← asked .degrees .product) (R .no t whole)
+
+  module _ (c : Coprime r m) where
+    pub root-none : {a : List ℕ} {b : Bool} → Root m f r s a b → b ≡ false → NoPair m f r s
+    root-none R t = report-refutes pos (omega (arith, asked .degrees .two-left)) (omega (arith, asked .degrees .two-right)) (coprime-invertible m pos c) whole (R .no t whole)
+      where
+        pos : 0 < m
+        pos = omega (arith, asked .modulus .above-one)
+
+    pub root-open : {a : List ℕ} {b : Bool} → Root m f r s a b → Opened m n r s f a
+    root-open R = record { modulus = asked .modulus; degrees = asked .degrees; whole = asked .whole; coprime = c; room = R .room; part = R .part }
+
+-- the left part is looked for with the forced right part
+pub asked-left : {m n r s : ℕ} {f h : List ℕ} → Modulus m → Degrees n r s → Held m n f → RightPart m f r s h → LeftAsked m n r s f h
+unfolding terms
+asked-left a d whole h = record { modulus = a; degrees = d; whole = whole; right = record { reduced = h .reduced; monic = h .forced .monic; within = omega (arith, fits-below d .1) } }
+
+-- what the digits tell
+pub report-told : {m r s k : ℕ} {f h : List ℕ} → 0 < m → RightPart m f r s h → LeftReport m f r s h k → QuickAnswer m f r s (record { outcome = Answered; splits = eqb k 0; power = k })
+report-told pos right (digits.composes {g = g} mg w e) = quick.found {g = g} (record { left = mg; right = right .forced .monic; whole = w }) (rw e refl)
+report-told {m} {r} {s} {k} {f} {h} pos right (digits.differs {g = g} L d) = quick.apart {k = k} R (ap (λ (b : Bool). record { outcome = Answered; splits = b; power = k }) (ne-eqb k 0 (λ e. report-above pos R 0 (e ∙ sym (N.zero-mul s)))))
+  where
+    R : Report m r s f k
+    R = record { g = g; h = h; forced = record { right = right .forced; left = L }; differs = d }

@@ -3,3 +3,4 @@ pub mod Forcing
 pub mod Answering
 pub mod Determined
 pub mod Exact
+pub mod Reports

@@ -1,1 +1,2 @@
 pub mod Pairing
+pub mod Asking

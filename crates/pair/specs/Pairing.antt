@@ -8,6 +8,7 @@
 --   check-split m f r        1, 2, 3, 4; 6
 --   Splits m f r x           x answers: f split at the left degree r
 --   SplitAsked m n r s f t   what a split at r and s is given: f of degree n = r·s, and the binomials
+--   Opened m n r s f t       what is left to do where the root in t leaves a pair open
 --   SplitAnswer m f r s x    what it answers: the pair, that there is none, or that r and m share a factor
 use mathlib.Core.Path.{_≡_}
 use mathlib.Core.Bool.{Bool, not, _&&_}
@@ -32,6 +33,8 @@ use Rattle.polynomial.specs.Degrees.{Degrees}
 use Rattle.binomial.specs.Triangle.{rows, triangle}
 use Rattle.composition.specs.Composition.{composition}
 use Rattle.left.specs.Left.{LeftPart, NoLeft}
+use Rattle.right.specs.Right.{RightPart}
+use Rattle.right.specs.Rows.{Space, Upside}
 
 -- a degree that a part of a polynomial of degree n can have
 unfoldable pub fits : ℕ → ℕ → Bool
@@ -76,6 +79,15 @@ pub record SplitAsked (m n r s : ℕ) (f table : List ℕ) : Type 0 where
   pub degrees : Degrees n r s
   pub whole : Held m n f
   pub binomials : table ≡ triangle rows
+
+-- r has an inverse, and the right part can be read off the rows in t
+pub record Opened (m n r s : ℕ) (f t : List ℕ) : Type 0 where
+  pub modulus : Modulus m
+  pub degrees : Degrees n r s
+  pub whole : Held m n f
+  pub coprime : Coprime r m
+  pub room : Space m t
+  pub part : {h : List ℕ} → Upside s t h → RightPart m f r s h
 
 -- and what it answers
 pub data SplitAnswer (m : ℕ) (f : List ℕ) (r s : ℕ) (x : Parts) : Type 0 where

@@ -1,8 +1,13 @@
-// The operations on pairs: compose, left part, split.
+// The operations on pairs: compose, left part, split, and the quick question whether there is a pair.
 ghost use mathlib.Core.Path.{_≡_};
 ghost use Prim.Native.Nat.{_*_, _%_, _<_};
 ghost use Rattle.polynomial.specs.Moduli.{modulus};
-ghost use Rattle.pair.specs.Pairing.{fits as fits-of, compose as compose-of, LeftPartOf, Splits, SplitAsked, SplitAnswer};
+ghost use Rattle.polynomial.specs.Checks.{Measured};
+ghost use Rattle.residue.specs.Ready.{Ready};
+ghost use Rattle.right.specs.Rows.{Space};
+ghost use Rattle.right.specs.Right.{Root};
+ghost use Rattle.pair.specs.Pairing.{fits as fits-of, compose as compose-of, LeftPartOf, check-split, Splits, SplitAsked, Opened, SplitAnswer};
+ghost use Rattle.pair.specs.Asking.{unasked as unasked-of, QuickOf, QuickAnswer};
 use binomial::ENTRIES;
 use polynomial::Answer;
 use polynomial::Coefficients;
@@ -10,6 +15,7 @@ use polynomial::Parts;
 use refusal::Concerns;
 use refusal::Outcome;
 use refusal::Reason;
+use residue::Divisor;
 use residue::Inverse;
 
 // Whether a part of a polynomial of degree n can have degree d: d divides n, and d and n / d are at least 2.
@@ -36,9 +42,10 @@ pub fn compose(m: u32, g: Coefficients, h: Coefficients) -> Answer
     if refusal::refuses(o) {
         return polynomial::nothing(o);
     }
+    let d = residue::made_ready(m);
     Answer {
         outcome: Outcome::Answered,
-        polynomial: composition::compose(&g, &h, r, s, m),
+        polynomial: composition::compose(&g, &h, r, s, d),
     }
 }
 
@@ -56,23 +63,35 @@ pub fn left_part(m: u32, f: Coefficients, h: Coefficients) -> Answer
     if !fits(n, s) {
         return polynomial::nothing(refusal::refused(Concerns::Neither, Reason::Fit));
     }
-    left::left_part(f, h, n, n / s, s, m)
+    let d = residue::made_ready(m);
+    left::left_part(f, h, n, n / s, s, d)
 }
 
-// The forced pair by the inverse u of r, if it passes the last comparison.
-fn forced(
-    f: Coefficients,
+// Whether the root of f, worked out in t, leaves a pair at r and s open. v is the inverse of n, so that of r is s * v: the chain
+// asks it at every s of a round, with one inverse, and no polynomial is copied for a no.
+pub fn is_open(
+    t: &mut [u32],
+    f: &[u32],
     n: usize,
     r: usize,
     s: usize,
-    u: u32,
+    v: u32,
     table: &[u64; ENTRIES],
-    m: u64,
-) -> Parts
-    requires { ⌜ SplitAsked m n r s f (now table) × (u < m) × (r * u % m ≡ 1) ⌝ }
-    ensures { λ x. ⌜ SplitAnswer m f r s x ⌝ }
+    m: Divisor,
+) -> bool
+    requires { ⌜ SplitAsked (m .number) n r s (now f) (now table) × (n * v % m .number ≡ 1) × Space (m .number) (now t) × Ready m ⌝ }
+    ensures { λ b. ⌜ Root (m .number) (now (f .entry)) r s (now (t .exit)) b ⌝ }
 {
-    let h = right::right_part(&f, n, r, s, u, table, m);
+    let u = residue::multiply(v, s as u32, m);
+    right::root(t, f, n, r, s, u, table, m)
+}
+
+// The split where the root in t leaves it open: its right part is there, and its left part is looked for.
+pub fn split_open(f: Coefficients, t: &[u32], n: usize, r: usize, s: usize, m: Divisor) -> Parts
+    requires { ⌜ Opened (m .number) n r s f (now t) × Ready m ⌝ }
+    ensures { λ x. ⌜ SplitAnswer (m .number) f r s x ⌝ }
+{
+    let h = right::upside(t, s);
     let a = left::left_part(f, h, n, r, s, m);
     let compared = a.outcome;
     if refusal::refuses(compared) {
@@ -86,25 +105,41 @@ fn forced(
     }
 }
 
-// The split at the left degree r and the right degree s, with the table of binomials lent: the chain asks it at every s.
+// The split at the left degree r and the right degree s, with the table of binomials lent.
 pub fn split_at(
     f: Coefficients,
     n: usize,
     r: usize,
     s: usize,
     table: &[u64; ENTRIES],
-    m: u64,
+    m: Divisor,
 ) -> Parts
-    requires { ⌜ SplitAsked m n r s f (now table) ⌝ }
-    ensures { λ x. ⌜ SplitAnswer m f r s x ⌝ }
+    requires { ⌜ SplitAsked (m .number) n r s f (now table) × Ready m ⌝ }
+    ensures { λ x. ⌜ SplitAnswer (m .number) f r s x ⌝ }
 {
-    match residue::invert(r as u64, m) {
-        Inverse::Of(u) => forced(f, n, r, s, u, table, m),
-        Inverse::Shared(_) => polynomial::no_parts(refusal::refused(
-            Concerns::Neither,
-            Reason::Factor,
-        )),
+    let Inverse::Of(u) = residue::invert(r as u64, m.number) else {
+        return polynomial::no_parts(refusal::refused(Concerns::Neither, Reason::Factor));
+    };
+    let mut t = [0; right::WORDS];
+    if !right::root(&mut t, &f, n, r, s, u, table, m) {
+        return polynomial::no_parts(refusal::refused(Concerns::Neither, Reason::NoPair));
     }
+    split_open(f, &t, n, r, s, m)
+}
+
+// 1, 2, 3, 4; 6: what a split at r refuses before it looks for a pair. n is the degree of f.
+fn check_split(m: u64, f: &[u32], n: usize, r: usize) -> Outcome
+    requires { ⌜ Measured n (now f) ⌝ }
+    ensures { λ o. ⌜ o ≡ check-split m (now (f .entry)) r ⌝ }
+{
+    let o = polynomial::check_one(m, f, n);
+    if refusal::refuses(o) {
+        return o;
+    }
+    if fits(n, r) {
+        return o;
+    }
+    refusal::refused(Concerns::Neither, Reason::Fit)
 }
 
 // The operation: f split at the left degree r.
@@ -113,13 +148,77 @@ pub fn split(m: u32, f: Coefficients, r: usize) -> Parts
 {
     let m = polynomial::modulus(m);
     let n = polynomial::degree(&f);
-    let o = polynomial::check_one(m, &f, n);
+    let o = check_split(m, &f, n, r);
     if refusal::refuses(o) {
         return polynomial::no_parts(o);
     }
-    if !fits(n, r) {
-        return polynomial::no_parts(refusal::refused(Concerns::Neither, Reason::Fit));
-    }
+    let d = residue::made_ready(m);
     let table = binomial::table();
-    split_at(f, n, r, n / r, &table, m)
+    split_at(f, n, r, n / r, &table, d)
+}
+
+// What the quick question answers: whether f splits, and if not, the highest power at which the forced pair, composed, and f differ.
+pub struct Verdict {
+    pub outcome: Outcome,
+    pub splits: bool,
+    pub power: usize,
+}
+
+// Zeros beside a refusal.
+fn unasked(outcome: Outcome) -> Verdict
+    ensures { λ x. ⌜ x ≡ unasked-of outcome ⌝ }
+{
+    Verdict {
+        outcome,
+        splits: false,
+        power: 0,
+    }
+}
+
+// The quick question by the inverse u of r: the root says most nos, and all digits the others.
+fn report(
+    f: Coefficients,
+    n: usize,
+    r: usize,
+    s: usize,
+    u: u32,
+    table: &[u64; ENTRIES],
+    m: Divisor,
+) -> Verdict
+    requires { ⌜ SplitAsked (m .number) n r s f (now table) × (u < m .number) × (r * u % m .number ≡ 1) × Ready m ⌝ }
+    ensures { λ x. ⌜ QuickAnswer (m .number) f r s x ⌝ }
+{
+    let mut t = [0; right::WORDS];
+    if !right::root(&mut t, &f, n, r, s, u, table, m) {
+        return Verdict {
+            outcome: Outcome::Answered,
+            splits: false,
+            power: n - s - 1,
+        };
+    }
+    let h = right::upside(&t, s);
+    let power = left::report(f, h, n, r, s, m);
+    Verdict {
+        outcome: Outcome::Answered,
+        splits: power == 0,
+        power,
+    }
+}
+
+// The operation: whether f splits at the left degree r, without the pair.
+pub fn quick(m: u32, f: Coefficients, r: usize) -> Verdict
+    ensures { λ x. ⌜ QuickOf (modulus m) f r x ⌝ }
+{
+    let m = polynomial::modulus(m);
+    let n = polynomial::degree(&f);
+    let o = check_split(m, &f, n, r);
+    if refusal::refuses(o) {
+        return unasked(o);
+    }
+    let d = residue::made_ready(m);
+    let table = binomial::table();
+    match residue::invert(r as u64, m) {
+        Inverse::Of(u) => report(f, n, r, n / r, u, &table, d),
+        Inverse::Shared(_) => unasked(refusal::refused(Concerns::Neither, Reason::Factor)),
+    }
 }

@@ -1,14 +1,17 @@
 -- The rows that the loops fill are those of the right part that 01's rule forces.
 --
---   rows-right     row 0 of the filled rows, from the top, is the right part of f
+--   rows-root      row 0, from the top, is the right part of f as far as place s - 1; where its place s + 1 is not 0, the report
 use mathlib.Core.Path.{_≡_, refl, sym, _∙_, ap, ap₂}
-use mathlib.Core.List.{List}
+use mathlib.Core.Bool.{false, true≢false}
+use mathlib.Core.List.{List, [], _∷_}
+use lib.Dec.{eqb}
+use borrow.Author.Tests.{eq-eqb}
 use Prim.Native.Nat.{ℕ, zero, suc, min, _+_, _*_, _-_, _%_, _≤_, _<_}
-use native.Mathlib.Nat.{mul-le-mul-right, mod-mod, not-suc-le-zero}
+use native.Mathlib.Nat.{mul-le-mul-right, mod-mod, mod-eq-of-lt, zero-mod, not-suc-le-zero}
 use native.Mathlib.Omega.{arith}
-use Rattle.algebra.specs.Number.{choose}
+use Rattle.algebra.specs.Number.{choose, table}
 use Rattle.algebra.specs.Polynomial.{coef, power, Monic}
-use Rattle.algebra.specs.Pair.{ForcedRight, terms-from}
+use Rattle.algebra.specs.Pair.{ForcedRight, Report, terms-from}
 use Rattle.algebra.proofs.Ring.{Ring}
 use Rattle.algebra.proofs.Ring as A
 use Rattle.algebra.proofs.Series as S
@@ -21,11 +24,15 @@ use Rattle.algebra.proofs.Binomials.{choose-one}
 use Rattle.algebra.proofs.Tops.{rev, rev-at, rev-past, top-power, order-pow, row-step, sum-clip}
 use Rattle.algebra.proofs.Polynomials.{Z, monic-series, at-residue}
 use Rattle.algebra.proofs.RightPart.{power-at, forced-terms}
+use Rattle.algebra.proofs.Agreement.{forced-left-exists}
+use Rattle.algebra.proofs.Roots.{root-differs}
+use Rattle.algebra.proofs.Numbers.{table-below}
 use Rattle.residue.specs.Residue.{strided}
 use Rattle.residue.proofs.Inner.{inner-none, inner-more, strided-none, strided-more}
 use Rattle.polynomial.specs.Degrees.{Degrees}
-use Rattle.right.specs.Right.{RightPart}
-use Rattle.right.specs.Rows.{Binomials, Rows, Upside}
+use Rattle.right.specs.Right.{RightPart, Root}
+use Rattle.right.specs.Rows.{Scaled, Rows, Upside}
+use Rattle.right.proofs.Columns.{unscaled}
 use Rattle.right.proofs.Turning.{upside-below}
 
 -- a sum of products, one more at a time, in a ring
@@ -44,7 +51,15 @@ power-term {m} pos (suc r) {s} rp mon k kp ks =
     let place : s - k + r * s ≡ suc r * s - k = omega arith in
     rw place at (power-at m pos r (s - k) (omega arith) mon)
 
-module _ (m : ℕ) (pos : 0 < m) {f : List ℕ} {n r s : ℕ} {b a h : List ℕ} (D : Degrees n r s) (B : Binomials m r b) (T : Rows m f r s b s a) (U : Upside s a h) where
+-- row 0 of a list, from the top, is h
+record Reads (s : ℕ) (a h : List ℕ) : Type 0 where
+  pub lead : coef h s ≡ 1
+  pub origin : coef h 0 ≡ 0
+  pub past : (i : ℕ) → s < i → coef h i ≡ 0
+  pub is : (k : ℕ) → 0 < k → k < s → coef h (s - k) ≡ coef a k
+
+module _ (m : ℕ) (pos : 0 < m) {f : List ℕ} {n r s w u top K : ℕ} {b a h : List ℕ} (two : 2 ≤ r) (sw : s ≤ w) (sK : s ≤ K) (most : min r (s - 1) ≤ top)
+    (B : Scaled m r u top b) (unit : u * r % m ≡ 1 % m) (T : Rows m f n r w b K a) (U : Reads s a h) where
   abbrev R : Ring
   R = Z m pos
 
@@ -86,19 +101,26 @@ module _ (m : ℕ) (pos : 0 < m) {f : List ℕ} {n r s : ℕ} {b a h : List ℕ}
   pw-one k = ap (λ (p : ℕ → Res m pos). p k) (pow-suc (S.series R) t 0 ∙ ap (S._⊠_ R t) (pow-zero (S.series R) t) ∙ A.mul-one (S.series R) t)
 
   -- row i of the list holds t^(i+1)
-  row : (i k : ℕ) → suc i ≤ k → k < s → suc i ≤ r → pw (suc i) k ≡ nat R (coef a (i * s + k))
+  row : (i k : ℕ) → suc i ≤ k → k < s → suc i ≤ r → pw (suc i) k ≡ nat R (coef a (i * w + k))
   row zero k l ks lr =
-      let e : k ≡ 0 * s + k = omega arith in
+      let e : k ≡ 0 * w + k = omega arith in
       pw-one k ∙ t-is k (omega arith) ks ∙ ap (λ (j : ℕ). nat R (coef a j)) e
   row (suc i) k l ks lr =
       row-step R t t-zero (suc i) k (omega arith)
       ∙ sum-ext R (k - suc i) _ _
       (λ j g.
       let e : suc j ≡ 1 + j = omega arith in
-      let q : i * s + (k - suc j) ≡ i * s + k - (1 + j) = omega arith in
+      let q : i * w + (k - suc j) ≡ i * w + k - (1 + j) = omega arith in
       ap₂ (Residues.rmul m pos) (t-is (suc j) (omega arith) (omega arith) ∙ ap (λ (x : ℕ). nat R (coef a x)) e)
       (row i (k - suc j) (omega arith) (omega arith) (omega arith) ∙ ap (λ (x : ℕ). nat R (coef a x)) q))
-      ∙ sym (nat-total R _ _ _ (inner-none a a (i * s + k) 1) (inner-more a a (i * s + k) 1) (k - suc i)) ∙ sym (nat-mod _) ∙ ap (nat R) (sym (T .is k i ks (omega arith)))
+      ∙ sym (nat-total R _ _ _ (inner-none a a (i * w + k) 1) (inner-more a a (i * w + k) 1) (k - suc i)) ∙ sym (nat-mod _) ∙ ap (nat R) (sym (T .is k i (omega arith) (omega arith)))
+
+  binomials : List ℕ
+  binomials = table (suc r) (choose r)
+
+  binomials-at : (i : ℕ) → i ≤ r → coef binomials i ≡ choose r i
+  unfolding binomials
+  binomials-at i l = table-below (suc r) (choose r) i (omega arith)
 
   -- column k: the terms of the binomial theorem at x^(rs-k)
   module _ (k : ℕ) (kp : 0 < k) (ks : k < s) where
@@ -111,18 +133,18 @@ module _ (m : ℕ) (pos : 0 < m) {f : List ℕ} {n r s : ℕ} {b a h : List ℕ}
     second : term 1 ≡ nat R (r * coef a k)
     second = ap₂ (λ (x : ℕ) (y : Res m pos). Residues.rmul m pos (nat R x) y) (choose-one r) (pw-one k ∙ t-is k kp ks) ∙ sym (nat-mul R r _)
 
-    later : (i : ℕ) → i < min r k - 1 → term (suc (suc i)) ≡ Residues.rmul m pos (nat R (coef b (2 + i))) (nat R (coef a (s + k + i * s)))
+    later : (i : ℕ) → i < min r k - 1 → term (suc (suc i)) ≡ Residues.rmul m pos (nat R (coef binomials (2 + i))) (nat R (coef a (k + w + i * w)))
     later i g =
-        let e : suc i * s + k ≡ s + k + i * s = omega arith in
+        let e : suc i * w + k ≡ k + w + i * w = omega arith in
         let q : suc (suc i) ≡ 2 + i = omega arith in
-        ap₂ (Residues.rmul m pos) (sym (nat-mod _) ∙ ap (nat R) (sym (B .is (suc (suc i)) (omega arith))) ∙ ap (λ (x : ℕ). nat R (coef b x)) q)
+        ap₂ (Residues.rmul m pos) (ap (nat R) (sym (binomials-at (suc (suc i)) (omega arith))) ∙ ap (λ (x : ℕ). nat R (coef binomials x)) q)
         (row (suc i) k (omega arith) ks (omega arith) ∙ ap (λ (x : ℕ). nat R (coef a x)) e)
 
     -- t^i has no place k where i is above k
     beyond : (i : ℕ) → min r k - 1 ≤ i → i < min r k - 1 + (r - min r k) → term (suc (suc i)) ≡ red m pos 0
     beyond i g u = ap (Residues.rmul m pos (nat R (choose r (suc (suc i))))) (order-pow R t t-zero (suc (suc i)) k (omega arith)) ∙ A.mul-zero R _
 
-    total : sum R (suc r) term ≡ nat R (r * coef a k + strided b a 2 (s + k) s (min r k - 1))
+    total : sum R (suc r) term ≡ nat R (r * coef a k + strided binomials a 2 (k + w) w (min r k - 1))
     total =
         let e : r ≡ suc (r - 1) = omega arith in
         let q : r - 1 ≡ min r k - 1 + (r - min r k) = omega arith in
@@ -130,22 +152,118 @@ module _ (m : ℕ) (pos : 0 < m) {f : List ℕ} {n r s : ℕ} {b a h : List ℕ}
         ∙ ap (λ (x : ℕ). sum R x (λ i. term (suc i))) e ∙ sum-suc R (r - 1) (λ i. term (suc i))
         ∙ ap₂ (Residues.radd m pos) second
         (ap (λ (x : ℕ). sum R x (λ i. term (suc (suc i)))) q ∙ sum-clip R (min r k - 1) (r - min r k) (λ i. term (suc (suc i))) beyond
-        ∙ sum-ext R (min r k - 1) _ _ later ∙ sym (nat-total R _ _ _ (strided-none b a 2 (s + k) s) (strided-more b a 2 (s + k) s) (min r k - 1)))
+        ∙ sum-ext R (min r k - 1) _ _ later ∙ sym (nat-total R _ _ _ (strided-none binomials a 2 (k + w) w) (strided-more binomials a 2 (k + w) w) (min r k - 1)))
         ∙ sym (nat-add R _ _)
 
-    top : coef (power h r) (r * s - k) % m ≡ coef f (r * s - k) % m
-    top =
-        at-residue m pos (power h r) (r * s - k) (coef f (r * s - k))
+    leading : coef (power h r) (r * s - k) % m ≡ coef f (n - k) % m
+    leading =
+        at-residue m pos (power h r) (r * s - k) (coef f (n - k))
         (ap (λ (p : ℕ → Res m pos). p (r * s - k)) (eval-power (S.series R) h r (S.X R))
         ∙ top-power R (monic-series m pos monic-h) t-zero t-at t-past r k (omega (arith, mul-le-mul-right {m = 1} {n = r} s (omega arith)))
-        ∙ total ∙ nat-red m pos _ ∙ red-eq m pos _ _ (T .sum k kp ks))
+        ∙ total ∙ nat-red m pos _ ∙ red-eq m pos _ _ (unscaled binomials B unit T k kp (omega arith) (omega arith) binomials-at))
 
-  pub rows-right : 1 < m → RightPart m f r s h
-  rows-right one = record {
-    reduced = record { long = U .long; below = λ i l. upside-below one U (T .small) i };
-    forced = forced;
-    leading = λ f′ e. forced-terms m pos (λ k l g. ap (λ (x : ℕ). x % m) (e k g)) forced;
+  rows-forced : {F : List ℕ} → ((k : ℕ) → 0 < k → k < s → coef F (r * s - k) % m ≡ coef f (n - k) % m) → ForcedRight m r s F h
+  rows-forced e = record { monic = monic-h; normal = record { constant = ap (λ (x : ℕ). x % m) (U .origin) }; forced = λ k l g. sym (power-term pos r (omega arith) monic-h k l g) ∙ leading k l g ∙ sym (e k l g) }
+
+-- row 0 read from the top, as a list
+unfoldable down : ℕ → List ℕ → List ℕ
+down zero a = 1 ∷ []
+down (suc j) a = coef a (suc j) ∷ down j a
+
+down-lead : (j : ℕ) (a : List ℕ) → coef (down j a) j ≡ 1
+unfolding down
+down-lead zero a = refl
+down-lead (suc j) a = down-lead j a
+
+down-past : (j : ℕ) (a : List ℕ) (i : ℕ) → j < i → coef (down j a) i ≡ 0
+unfolding down
+down-past zero a zero l = absurd (not-suc-le-zero l)
+down-past zero a (suc i) l = refl
+down-past (suc j) a zero l = absurd (not-suc-le-zero l)
+down-past (suc j) a (suc i) l = down-past j a i (omega arith)
+
+down-is : (j : ℕ) (a : List ℕ) (i : ℕ) → i < j → coef (down j a) i ≡ coef a (j - i)
+unfolding down
+down-is zero a i l = absurd (not-suc-le-zero l)
+down-is (suc j) a zero l = ap (coef a) (omega arith)
+down-is (suc j) a (suc i) l = down-is j a i (omega arith) ∙ ap (coef a) (omega arith)
+
+down-reads : (j : ℕ) (a : List ℕ) → Reads (suc j) a (0 ∷ down j a)
+down-reads j a = record { lead = down-lead j a; origin = refl; past = far; is = near }
+  where
+    far : (i : ℕ) → suc j < i → coef (0 ∷ down j a) i ≡ 0
+    far zero l = refl
+    far (suc i) l = down-past j a i (omega arith)
+
+    near : (k : ℕ) → 0 < k → k < suc j → coef (0 ∷ down j a) (suc j - k) ≡ coef a k
+    near k l g =
+        let e : suc j - k ≡ suc (j - k) = omega arith in
+        let d : j - (j - k) ≡ k = omega arith in
+        ap (coef (0 ∷ down j a)) e ∙ down-is j a (j - k) (omega arith) ∙ ap (coef a) d
+
+upside-reads : {s : ℕ} {a h : List ℕ} → Upside s a h → Reads s a h
+upside-reads U = record { lead = U .lead; origin = U .origin; past = U .past; is = U .is }
+
+module _ {m : ℕ} (one : 1 < m) {f : List ℕ} {n r s u : ℕ} {b a : List ℕ} (D : Degrees n r s)
+    (B : Scaled m r u (min r (s + 1)) b) (unit : u * r % m ≡ 1 % m) (T : Rows m f n r (s + 2) b (s + 2) a) where
+  pos : 0 < m
+  pos = omega arith
+
+  -- what reads row 0 as far as place s - 1 is the right part
+  rows-read : {h : List ℕ} → Reads s a h → ForcedRight m r s f h
+  rows-read U = rows-forced m pos (D .two-left) (omega arith) (omega arith) (omega arith) B unit T U (λ k l g. ap (λ (x : ℕ). coef f (x - k) % m) (D .product))
+
+  rows-right : {h : List ℕ} → Upside s a h → RightPart m f r s h
+  rows-right U = record {
+    reduced = record { long = U .long; below = λ i l. upside-below one U (T .room .small) i };
+    forced = rows-read (upside-reads U);
+    leading = λ f′ e. forced-terms m pos (λ k l g. ap (λ (x : ℕ). x % m) (e k g)) (rows-read (upside-reads U));
   }
+
+  -- place s + 1 of the root is not 0
+  rows-gap : ¬ (coef a (s + 1) ≡ 0) → Monic m (r * s) f → Report m r s f (r * s - s - 1)
+  rows-gap bad mf =
+      let (g, L) = forced-left-exists m pos (omega arith) (right .monic) mf in
+      record {
+        g = g;
+        h = h;
+        forced = record { right = right; left = L };
+        differs = root-differs m pos {F = power H r} (D .two-left) (D .two-right) (record { inverse = u; unit = unit })
+            (rows-forced m pos (D .two-left) (omega arith) (omega arith) (omega arith) B unit T read {F = power H r} lead)
+            (λ k l g. lead k l g ∙ ap (λ (x : ℕ). coef f (x - k) % m) (sym (D .product))) mf (record { right = right; left = L }) gap;
+      }
     where
-      forced : ForcedRight m r s f h
-      forced = record { monic = monic-h; normal = record { constant = ap (λ (x : ℕ). x % m) (U .origin) }; forced = λ k l g. sym (power-term pos r (omega arith) monic-h k l g) ∙ top k l g }
+      h : List ℕ
+      h = 0 ∷ down (s - 1) a
+
+      H : List ℕ
+      H = 0 ∷ down (s + 1) a
+
+      narrow : suc (s - 1) ≡ s
+      narrow = omega arith
+
+      right : ForcedRight m r s f (0 ∷ down (s - 1) a)
+      right = rows-read (rw narrow at (down-reads (s - 1) a))
+
+      wide : suc (s + 1) ≡ s + 2
+      wide = omega arith
+
+      read : Reads (s + 2) a (0 ∷ down (s + 1) a)
+      read = rw wide at (down-reads (s + 1) a)
+
+      lead : (k : ℕ) → 0 < k → k < s + 2 → coef (power (0 ∷ down (s + 1) a) r) (r * (s + 2) - k) % m ≡ coef f (n - k) % m
+      lead k l g = leading m pos (D .two-left) (omega arith) (omega arith) (omega arith) B unit T read k l g
+
+      here : coef a (s + 1) ≡ coef (0 ∷ down (s + 1) a) 1
+      here = sym (down-is (s + 1) a 0 (omega arith) ∙ ap (coef a) (omega arith))
+
+      gap : ¬ (coef (0 ∷ down (s + 1) a) 1 % m ≡ 0 % m)
+      gap z = bad (sym (mod-eq-of-lt (T .room .small (s + 1))) ∙ ap (λ (x : ℕ). x % m) here ∙ z ∙ zero-mod m)
+
+-- what the leaf answers
+pub rows-root : {m : ℕ} {f : List ℕ} {n r s u top K : ℕ} {b a : List ℕ} → 1 < m → Degrees n r s → top ≡ min r (s + 1) → K ≡ s + 2
+    → Scaled m r u top b → u * r % m ≡ 1 % m → Rows m f n r (s + 2) b K a → Root m f r s a (eqb (coef a (s + 1)) 0)
+rows-root {m} {f} {n} {r} {s} {u} {top} {K} {b} {a} one D te ke B unit T =
+    let B′ : Scaled m r u (min r (s + 1)) b = rw te at B in
+    let T′ : Rows m f n r (s + 2) b (s + 2) a = rw ke at T in
+    record { room = T .room; part = rows-right one D B′ unit T′; no = λ t. rows-gap one D B′ unit T′ (λ z. true≢false (sym (eq-eqb _ _ z) ∙ t)) }

@@ -2,60 +2,72 @@
 //
 // h = x^s + t, and the powers of h come from those of t by the binomials. Counted from the top, T_i[k] is the coefficient of
 // x^(is-k) in t^i; then r·c_(s-k) = a_(n-k) - d with d the sum of C(r, i)·T_i[k] over i from 2 on. No entry is ever updated.
+// Both sides are divided by r once: the binomials are kept as -C(r, i)/r, and a column ends with one sum.
+//
+// The same columns go on for two places past h: they are the r-th root of f from the top. If f = g(h), the root is h + g_(r-1)/r
+// as far as place 2s - 1, so its place s + 1 is 0; where it is not, the forced pair and f differ at x^(n-s-1).
 ghost use mathlib.Core.Path.{_≡_};
-ghost use Prim.Native.Nat.{_+_, _≤_, _<_};
+ghost use Prim.Native.Nat.{_+_, _*_, _%_, _≤_, _<_};
 ghost use lib.ListN.{length};
-ghost use Rattle.algebra.specs.Number.{Modulus};
-ghost use Rattle.algebra.specs.Polynomial.{limit, terms};
+ghost use Rattle.algebra.specs.Polynomial.{limit, Reduced};
+ghost use Rattle.residue.specs.Ready.{Ready};
+ghost use Rattle.polynomial.specs.Degrees.{Degrees};
 ghost use Rattle.binomial.specs.Triangle.{rows, triangle};
-ghost use Rattle.right.specs.Right.{RightAsked, RightPart};
-ghost use Rattle.right.specs.Rows.{Binomials, ColumnRoom, Column, Rows, Upside};
+ghost use Rattle.right.specs.Right.{RightAsked, Root};
+ghost use Rattle.right.specs.Rows.{words, Space, Scaled, ColumnRoom, Column, Rows, Upside};
 use binomial::ENTRIES;
 use binomial::ROWS;
 use polynomial::Coefficients;
 use polynomial::TERMS;
+use residue::Divisor;
 
-// Row r of the binomials, modulo m.
-fn binomials(table: &[u64; ENTRIES], r: usize, m: u64) -> [u32; ROWS]
-    requires { ⌜ Modulus m × (r < rows) × (now table ≡ triangle rows) ⌝ }
-    ensures { λ b. ⌜ Binomials m r b ⌝ }
+// How many words the rows of any degrees take at the most: r rows of s + 2 places.
+pub const WORDS: usize = 2 * TERMS;
+
+// Row r of the binomials as far as the place top, divided by -r modulo m, with the inverse u of r in place 1.
+fn binomials(table: &[u64; ENTRIES], r: usize, top: usize, u: u32, m: Divisor) -> [u32; ROWS]
+    requires { ⌜ Ready m × (r < rows) × (top ≤ r) × (2 ≤ top) × (u * r % m .number ≡ 1 % m .number) × (now table ≡ triangle rows) ⌝ }
+    ensures { λ b. ⌜ Scaled (m .number) r u top b ⌝ }
 {
     let mut b = [0; ROWS];
-    for i in 0..r + 1 {
-        b[i] = (binomial::entry(table, r, i) % m) as u32;
+    b[1] = u;
+    for i in 2..top + 1 {
+        let x = residue::remainder(binomial::entry(table, r, i), m);
+        b[i] = residue::subtract(0, residue::multiply(x, u, m), m.number);
     }
     b
 }
 
 // Column k of the rows 1 to n: each entry is one inner product of what stands before it.
-fn column(t: &mut [u32], s: usize, k: usize, n: usize, m: u64)
-    requires { ⌜ Modulus m × ColumnRoom s k n (now t) ⌝ }
-    ensures { λ _. ⌜ Column m s k n (now (t .entry)) (now (t .exit)) ⌝ }
+fn column(t: &mut [u32], w: usize, k: usize, n: usize, m: Divisor)
+    requires { ⌜ Ready m × ColumnRoom w k n (now t) ⌝ }
+    ensures { λ _. ⌜ Column (m .number) w k n (now (t .entry)) (now (t .exit)) ⌝ }
 {
     let mut at = k;
     for i in 0..n {
         let x = residue::inner_product(t, t, at, 1, k - i, m);
-        at += s;
+        at += w;
         t[at] = x;
     }
 }
 
-// Column k, whole: the rows after the first, then the place of row 0 that 01's equation asks, by the inverse u of r.
-fn next(t: &mut [u32], f: &[u32], b: &[u32], n: usize, r: usize, s: usize, k: usize, u: u32, m: u64)
-    requires { ⌜ RightAsked m n r s u (now f) × Binomials m r (now b) ⌝ }
-    requires { ⌜ Rows m (now f) r s (now b) k (now t) × (0 < k) × (k < s) ⌝ }
-    ensures { λ _. ⌜ Rows m (now (f .entry)) r s (now (b .entry)) (k + 1) (now (t .exit)) ⌝ }
+// Column k, whole: the rows after the first, then the place of row 0 that 01's equation asks, f's coefficient among its terms.
+fn next(t: &mut [u32], f: &[u32], b: &[u32], n: usize, r: usize, s: usize, k: usize, m: Divisor)
+    requires { ⌜ Ready m × Degrees n r s × Reduced (m .number) (now f) × (length (now b) ≡ rows) ⌝ }
+    requires { ⌜ Rows (m .number) (now f) n r (s + 2) (now b) k (now t) × (0 < k) × (k < s + 2) ⌝ }
+    ensures { λ _. ⌜ Rows (m .number) (now (f .entry)) n r (s + 2) (now (b .entry)) (k + 1) (now (t .exit)) ⌝ }
 {
+    let w = s + 2;
     let last = polynomial::smaller(r, k);
-    column(t, s, k, last - 1, m);
-    let d = residue::strided_product(b, t, 2, last + 1, s + k, s, m);
-    let x = residue::subtract(f[n - k], d, m);
-    t[k] = residue::multiply(x, u, m);
+    column(t, w, k, last - 1, m);
+    t[k] = f[n - k];
+    let x = residue::strided_product(b, t, 1, last + 1, k, w, m);
+    t[k] = x;
 }
 
 // Row 0 from the top is h.
-fn upside(t: &[u32], s: usize) -> Coefficients
-    requires { ⌜ (length (now t) ≡ terms) × (2 ≤ s) × (s + s ≤ limit) ⌝ }
+pub fn upside(t: &[u32], s: usize) -> Coefficients
+    requires { ⌜ (length (now t) ≡ words) × (2 ≤ s) × (s + s ≤ limit) ⌝ }
     ensures { λ h. ⌜ Upside s (now (t .entry)) h ⌝ }
 {
     let mut h = [0; TERMS];
@@ -66,23 +78,24 @@ fn upside(t: &[u32], s: usize) -> Coefficients
     h
 }
 
-// The forced right part of f, of degree n = r * s. u is the inverse of r.
-pub fn right_part(
+// The r-th root of f, of degree n = r * s, in the rows of t; u is the inverse of r. "No" if its place s + 1 shows that there is no
+// pair. t may hold the rows of another root.
+pub fn root(
+    t: &mut [u32],
     f: &[u32],
     n: usize,
     r: usize,
     s: usize,
     u: u32,
     table: &[u64; ENTRIES],
-    m: u64,
-) -> Coefficients
-    requires { ⌜ RightAsked m n r s u (now f) × (now table ≡ triangle rows) ⌝ }
-    ensures { λ h. ⌜ RightPart m (now (f .entry)) r s h ⌝ }
+    m: Divisor,
+) -> bool
+    requires { ⌜ RightAsked (m .number) n r s u (now f) × (now table ≡ triangle rows) × Space (m .number) (now t) × Ready m ⌝ }
+    ensures { λ b. ⌜ Root (m .number) (now (f .entry)) r s (now (t .exit)) b ⌝ }
 {
-    let b = binomials(table, r, m);
-    let mut t = [0; TERMS];
-    for k in 1..s {
-        next(&mut t, f, &b, n, r, s, k, u, m);
+    let b = binomials(table, r, polynomial::smaller(r, s + 1), u, m);
+    for k in 1..s + 2 {
+        next(t, f, &b, n, r, s, k, m);
     }
-    upside(&t, s)
+    t[s + 1] == 0
 }

@@ -5,12 +5,12 @@ ghost use mathlib.Core.List.{_∷_, _++_};
 ghost use Prim.Native.Nat.{_+_, _-_, _*_, _≤_, _<_};
 ghost use lib.Dec.{eqb};
 ghost use lib.ListN.{length, drop, replicate};
-ghost use Rattle.algebra.specs.Number.{Modulus};
 ghost use Rattle.algebra.specs.Polynomial.{limit, terms, reduced};
 ghost use Rattle.algebra.specs.Chain.{composed, degrees, product};
 ghost use Rattle.refusal.specs.Refusal.{_then_, refuse as refuse-if};
 ghost use Rattle.refusal.specs.declared.Concerns.the-variants.{Neither};
 ghost use Rattle.refusal.specs.declared.Reason.the-variants.{Sheet};
+ghost use Rattle.residue.specs.Ready.{Ready};
 ghost use Rattle.area.specs.Area.{most-parts, area-words, place, put-at, cleared, all-zero};
 ghost use Rattle.record.specs.Record.{word, record-bytes};
 ghost use Rattle.sheet.specs.Sheet.{sheet-bytes, record-at, used as used-of, record-of, recorded, sheet-of, held, parts-in};
@@ -23,6 +23,7 @@ use polynomial::TERMS;
 use refusal::Concerns;
 use refusal::Outcome;
 use refusal::Reason;
+use residue::Divisor;
 
 // How many bytes a sheet has: a record for each part.
 pub const BYTES: usize = area::PARTS * record::BYTES;
@@ -350,10 +351,10 @@ struct Composed {
 }
 
 // One place more.
-fn composed_with(area: &[u32], i: usize, g: Composed, m: u64) -> Composed
-    requires { ⌜ Modulus m × (i < most-parts) × (area-words ≤ length (now area)) × Composes m (place (now area)) ⌝ }
-    requires { ⌜ ComposedTo m (place (now area)) i (g .polynomial) (g .degree) ⌝ }
-    ensures { λ r. ⌜ ComposedTo m (place (now (area .entry))) (i + 1) (r .polynomial) (r .degree) ⌝ }
+fn composed_with(area: &[u32], i: usize, g: Composed, m: Divisor) -> Composed
+    requires { ⌜ Ready m × (i < most-parts) × (area-words ≤ length (now area)) × Composes (m .number) (place (now area)) ⌝ }
+    requires { ⌜ ComposedTo (m .number) (place (now area)) i (g .polynomial) (g .degree) ⌝ }
+    ensures { λ r. ⌜ ComposedTo (m .number) (place (now (area .entry))) (i + 1) (r .polynomial) (r .degree) ⌝ }
 {
     let h = area::part(area, i);
     if h.len() == 0 {
@@ -379,9 +380,9 @@ fn identity() -> Coefficients
 }
 
 // What the parts of an area compose to.
-fn compose(area: &[u32], m: u64) -> Coefficients
-    requires { ⌜ Modulus m × (area-words ≤ length (now area)) × Composes m (place (now area)) ⌝ }
-    ensures { λ f. ⌜ f ≡ reduced m (composed (parts-in (place (now (area .entry))) most-parts)) ⌝ }
+fn compose(area: &[u32], m: Divisor) -> Coefficients
+    requires { ⌜ Ready m × (area-words ≤ length (now area)) × Composes (m .number) (place (now area)) ⌝ }
+    ensures { λ f. ⌜ f ≡ reduced (m .number) (composed (parts-in (place (now (area .entry))) most-parts)) ⌝ }
 {
     let mut g = Composed {
         polynomial: identity(),
@@ -419,7 +420,7 @@ pub fn read(sheet: &[u8], area: &mut [u32]) -> Contents
         return refuse(o, area);
     }
     let modulus = record::word(sheet, 0);
-    let polynomial = compose(area, polynomial::modulus(modulus));
+    let polynomial = compose(area, residue::made_ready(polynomial::modulus(modulus)));
     Contents {
         outcome: Outcome::Answered,
         modulus,

@@ -6,10 +6,10 @@ ghost use mathlib.Core.List.{List, [], _∷_};
 ghost use Prim.Native.Nat.{ℕ, _+_, _-_, _*_, _≤_, _<_};
 ghost use lib.ListN.{length, getD, take};
 ghost use lib.Seq.{sets};
-ghost use Rattle.algebra.specs.Number.{Modulus};
 ghost use Rattle.algebra.specs.Polynomial.{limit};
 ghost use Rattle.refusal.specs.Refusal.{refusal};
 ghost use Rattle.refusal.specs.declared.Outcome.the-variants.{Answered};
+ghost use Rattle.residue.specs.Ready.{Ready};
 ghost use Rattle.polynomial.specs.Moduli.{modulus, check-modulus};
 ghost use Rattle.polynomial.specs.Checks.{Measured};
 ghost use Rattle.polynomial.specs.Answers.{nothing};
@@ -26,6 +26,7 @@ use polynomial::TERMS;
 use refusal::Concerns;
 use refusal::Outcome;
 use refusal::Reason;
+use residue::Divisor;
 
 // The longest text.
 const BYTES: usize = 8192;
@@ -151,9 +152,9 @@ fn failed(fault: u32) -> Found
 }
 
 // A number, where neither a bracket nor x stands.
-fn numbered(s: &[u8], at: usize, m: u64) -> Found
-    requires { ⌜ Modulus m × (getD (now s) at 0 ≡ open-byte → ⊥) × (getD (now s) at 0 ≡ x-byte → ⊥) ⌝ }
-    ensures { λ r. ⌜ ((d : ℕ) → Reads Phrase.a-base Phrase.a-base m (now (s .entry)) at d r) ⌝ }
+fn numbered(s: &[u8], at: usize, m: Divisor) -> Found
+    requires { ⌜ Ready m × (getD (now s) at 0 ≡ open-byte → ⊥) × (getD (now s) at 0 ≡ x-byte → ⊥) ⌝ }
+    ensures { λ r. ⌜ ((d : ℕ) → Reads Phrase.a-base Phrase.a-base (m .number) (now (s .entry)) at d r) ⌝ }
 {
     let n = number(s, at);
     if !n.good {
@@ -189,9 +190,9 @@ fn closed(s: &[u8], r: Found) -> Found
 }
 
 // The power of the base r, if one is written.
-fn raised(s: &[u8], r: Found, m: u64) -> Found
-    requires { ⌜ Modulus m × Sound r ⌝ }
-    ensures { λ q. ⌜ ((at d : ℕ) → Reads Phrase.a-base Phrase.a-base m (now (s .entry)) at d r → Reads Phrase.a-factor Phrase.a-factor m (now (s .entry)) at d q) ⌝ }
+fn raised(s: &[u8], r: Found, m: Divisor) -> Found
+    requires { ⌜ Ready m × Sound r ⌝ }
+    ensures { λ q. ⌜ ((at d : ℕ) → Reads Phrase.a-base Phrase.a-base (m .number) (now (s .entry)) at d r → Reads Phrase.a-factor Phrase.a-factor (m .number) (now (s .entry)) at d q) ⌝ }
 {
     if r.fault != 0 {
         return r;
@@ -216,20 +217,20 @@ fn raised(s: &[u8], r: Found, m: u64) -> Found
 }
 
 // a + b, or a - b, by the sign.
-fn added(a: Built, b: Built, sign: u8, m: u64) -> Built
-    requires { ⌜ Modulus m × Measured (a .degree) (a .coefficients) × Measured (b .degree) (b .coefficients) ⌝ }
-    ensures { λ r. ⌜ Adds m sign a b r ⌝ }
+fn added(a: Built, b: Built, sign: u8, m: Divisor) -> Built
+    requires { ⌜ Ready m × Measured (a .degree) (a .coefficients) × Measured (b .degree) (b .coefficients) ⌝ }
+    ensures { λ r. ⌜ Adds (m .number) sign a b r ⌝ }
 {
     if sign == b'+' {
         return built::combine(a, b, 1, m);
     }
-    built::combine(a, b, (m - 1) as u32, m)
+    built::combine(a, b, (m.number - 1) as u32, m)
 }
 
 // The first product of a sum, with the minus that stands before it.
-fn negated(r: Found, m: u64) -> Found
-    requires { ⌜ Modulus m × Sound r ⌝ }
-    ensures { λ q. ⌜ ((s : List ℕ) (at d : ℕ) → at < length s → getD s at 0 ≡ minus-byte → Reads Phrase.a-product Phrase.a-product m s (at + 1) d r → Reads Phrase.a-sum Phrase.a-product m s at d q) ⌝ }
+fn negated(r: Found, m: Divisor) -> Found
+    requires { ⌜ Ready m × Sound r ⌝ }
+    ensures { λ q. ⌜ ((s : List ℕ) (at d : ℕ) → at < length s → getD s at 0 ≡ minus-byte → Reads Phrase.a-product Phrase.a-product (m .number) s (at + 1) d r → Reads Phrase.a-sum Phrase.a-product (m .number) s at d q) ⌝ }
 {
     if r.fault != 0 {
         return r;
@@ -271,9 +272,9 @@ fn is_minus(s: &[u8], at: usize) -> bool
 }
 
 // A base: a sum in brackets, x, or a number.
-fn base(s: &[u8], at: usize, depth: usize, m: u64) -> Found
-    requires { ⌜ Modulus m ⌝ }
-    ensures { λ r. ⌜ Reads Phrase.a-base Phrase.a-base m (now (s .entry)) at depth r ⌝ }
+fn base(s: &[u8], at: usize, depth: usize, m: Divisor) -> Found
+    requires { ⌜ Ready m ⌝ }
+    ensures { λ r. ⌜ Reads Phrase.a-base Phrase.a-base (m .number) (now (s .entry)) at depth r ⌝ }
 {
     if at >= s.len() {
         return failed(SPELLING);
@@ -296,17 +297,17 @@ fn base(s: &[u8], at: usize, depth: usize, m: u64) -> Found
 }
 
 // A factor: a base with or without a power.
-fn factor(s: &[u8], at: usize, depth: usize, m: u64) -> Found
-    requires { ⌜ Modulus m ⌝ }
-    ensures { λ r. ⌜ Reads Phrase.a-factor Phrase.a-factor m (now (s .entry)) at depth r ⌝ }
+fn factor(s: &[u8], at: usize, depth: usize, m: Divisor) -> Found
+    requires { ⌜ Ready m ⌝ }
+    ensures { λ r. ⌜ Reads Phrase.a-factor Phrase.a-factor (m .number) (now (s .entry)) at depth r ⌝ }
 {
     raised(s, base(s, at, depth, m), m)
 }
 
 // A product: factors with * between them.
-fn product(s: &[u8], at: usize, depth: usize, m: u64) -> Found
-    requires { ⌜ Modulus m ⌝ }
-    ensures { λ r. ⌜ Reads Phrase.a-product Phrase.a-product m (now (s .entry)) at depth r ⌝ }
+fn product(s: &[u8], at: usize, depth: usize, m: Divisor) -> Found
+    requires { ⌜ Ready m ⌝ }
+    ensures { λ r. ⌜ Reads Phrase.a-product Phrase.a-product (m .number) (now (s .entry)) at depth r ⌝ }
 {
     let first = factor(s, at, depth, m);
     if first.fault != 0 {
@@ -338,9 +339,9 @@ fn product(s: &[u8], at: usize, depth: usize, m: u64) -> Found
 }
 
 // The first product of a sum, which may have a minus.
-fn leading(s: &[u8], at: usize, depth: usize, m: u64) -> Found
-    requires { ⌜ Modulus m ⌝ }
-    ensures { λ r. ⌜ Reads Phrase.a-sum Phrase.a-product m (now (s .entry)) at depth r ⌝ }
+fn leading(s: &[u8], at: usize, depth: usize, m: Divisor) -> Found
+    requires { ⌜ Ready m ⌝ }
+    ensures { λ r. ⌜ Reads Phrase.a-sum Phrase.a-product (m .number) (now (s .entry)) at depth r ⌝ }
 {
     if is_minus(s, at) {
         return negated(product(s, at + 1, depth, m), m);
@@ -349,9 +350,9 @@ fn leading(s: &[u8], at: usize, depth: usize, m: u64) -> Found
 }
 
 // A sum: products with + or - between them.
-fn sum(s: &[u8], at: usize, depth: usize, m: u64) -> Found
-    requires { ⌜ Modulus m ⌝ }
-    ensures { λ r. ⌜ Reads Phrase.a-sum Phrase.a-sum m (now (s .entry)) at depth r ⌝ }
+fn sum(s: &[u8], at: usize, depth: usize, m: Divisor) -> Found
+    requires { ⌜ Ready m ⌝ }
+    ensures { λ r. ⌜ Reads Phrase.a-sum Phrase.a-sum (m .number) (now (s .entry)) at depth r ⌝ }
 {
     let first = leading(s, at, depth, m);
     if first.fault != 0 {
@@ -446,7 +447,7 @@ pub fn read(m: u32, text: &[u8]) -> Answer
     if text.len() > BYTES {
         return refused(Concerns::Neither, Reason::Spelling);
     }
-    judged(text, sum(text, 0, 0, k))
+    judged(text, sum(text, 0, 0, residue::made_ready(k)))
 }
 
 // ---- the operation write

@@ -24,7 +24,7 @@ returns c =
     let lo : c .before .before .less .result ≡ s .args .k - degree y = omega (arith, c .before .before .less .ensures, s .pre .2 .is) in
     let hi : c .before .smaller .result + 1 ≡ min (s .args .k) (degree x) + 1 = omega (arith, c .before .smaller .ensures, s .pre .1 .is) in
     let w = law.product-places x y (s .args .k) (c .before .before .less .result) (c .before .smaller .result + 1) (s .pre .1 .long) (s .pre .2 .long) (omega (arith, s .pre .1 .is, s .pre .2 .is)) lo hi in
-    c .inner-product .ensures ∙ ap (λ (n : ℕ). n % s .args .m) (law.product-at x y (s .args .k) (c .before .before .less .result) (c .before .smaller .result + 1) (w .order) (omega (arith, w .down)) lo hi)
+    c .inner-product .ensures ∙ ap (λ (n : ℕ). n % s .args .m .number) (law.product-at x y (s .args .k) (c .before .before .less .result) (c .before .smaller .result + 1) (w .order) (omega (arith, w .down)) lo hi)
 
 pub coefficient-spec : {M : Type 1} → statement M
 coefficient-spec =

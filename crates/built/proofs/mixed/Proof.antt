@@ -8,7 +8,7 @@ use Rattle.built.proofs.mixed.Statement.{statement}
 use Rattle.built.proofs.mixed.Tie as tie
 
 abbrev Inv-loop : tie.InvT-loop
-Inv-loop x y top k m c₀ end i₀ c i = (i ≤ top + 1) × law.Front (λ j. coef (plus x (scaled k y)) j % m) c i
+Inv-loop x y top k m c₀ end i₀ c i = (i ≤ top + 1) × law.Front (λ j. coef (plus x (scaled k y)) j % m .number) c i
 
 abbrev μ-loop : tie.MeasureT-loop
 μ-loop x y top k m c₀ end i₀ c i = top + 1 - i

@@ -8,7 +8,7 @@ use Rattle.built.proofs.product.Statement.{statement}
 use Rattle.built.proofs.product.Tie as tie
 
 abbrev Inv-loop : tie.InvT-loop
-Inv-loop x n y s top m c₀ end k₀ c k = (k ≤ top + 1) × law.Front (λ j. coef (times x y) j % m) c k
+Inv-loop x n y s top m c₀ end k₀ c k = (k ≤ top + 1) × law.Front (λ j. coef (times x y) j % m .number) c k
 
 abbrev μ-loop : tie.MeasureT-loop
 μ-loop x n y s top m c₀ end k₀ c k = top + 1 - k

@@ -8,7 +8,7 @@ use Rattle.built.proofs.repeated.Statement.{statement}
 use Rattle.built.proofs.repeated.Tie as tie
 
 abbrev Inv-loop : tie.InvT-loop
-Inv-loop x n p m v₀ i₀ v i = (i ≤ p) × law.Powered m x i v
+Inv-loop x n p m v₀ i₀ v i = (i ≤ p) × law.Powered (m .number) x i v
 
 abbrev μ-loop : tie.MeasureT-loop
 μ-loop x n p m v₀ i₀ v i = p - i

@@ -7,7 +7,7 @@ use Rattle.built.proofs.spills.Statement.{statement}
 use Rattle.built.proofs.spills.Tie as tie
 
 abbrev Inv-loop : tie.InvT-loop
-Inv-loop x n y s m k₀ k = (k ≤ n + s) × law.Searched m (times x y) k
+Inv-loop x n y s m k₀ k = (k ≤ n + s) × law.Searched (m .number) (times x y) k
 
 abbrev μ-loop : tie.MeasureT-loop
 μ-loop x n y s m k₀ k = k

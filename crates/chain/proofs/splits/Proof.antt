@@ -1,10 +1,15 @@
-use borrow.Author.Needs.{needs}
 use Rattle.chain.proofs.Rounds.{searched-splits}
 use Rattle.chain.proofs.splits.Statement.{statement}
 use Rattle.chain.proofs.splits.Tie as tie
 
+inverse-requires : tie.Need-inverse-requires
+inverse-requires c κs = (c .pre .0 .modulus, c .pre .0 .coprime)
+
+first-split-requires : tie.Need-first-split-requires
+first-split-requires c κs = (c .before .pre .0, c .inverse .ensures, c .before .pre .1)
+
 returns : tie.Need-returns
-returns c = searched-splits (c .before .pre) (c .first-split .ensures)
+returns c = searched-splits (c .before .before .pre .0) (c .first-split .ensures)
 
 pub splits-spec : {M : Type 1} → statement M
-splits-spec = tie.close (tie.spec (λ c κs. search needs) returns)
+splits-spec = tie.close (tie.spec inverse-requires first-split-requires returns)

@@ -40,7 +40,7 @@ walk-claims t = (rightmost-reads.Asked, rightmost-reads.Learnt, walk-below t, wa
 
 -- nothing is written before the j-th chain is reached
 abbrev walk-Inv-loop : walk-lts.InvT-loop
-walk-Inv-loop n j area₀ table m f rest₀ s₀ area rest s = (area ≡ area₀) × Gone m f s j rest × (2 ≤ s) × (s ≤ n / 2 + 1)
+walk-Inv-loop n j area₀ table m f rest₀ s₀ area rest s = (area ≡ area₀) × Gone (m .number) f s j rest × (2 ≤ s) × (s ≤ n / 2 + 1)
 
 abbrev walk-μ-loop : walk-lts.MeasureT-loop
 walk-μ-loop n j area₀ table m f rest₀ s₀ area rest s = n / 2 + 1 - s
@@ -50,8 +50,8 @@ walk-loop-holds t c = (refl, gone-none (chainable (c .before .pre .1 .0)) _, ome
 
 walk-rightmost-requires : (t : ℕ) → walk-lts.Need-rightmost-requires (walk-claims t) (walk-at t) walk.Post walk-Inv-loop walk-μ-loop
 walk-rightmost-requires t c κs =
-    let p = c .before .before .before .before .pre .1 .0 in
-    (p, half-degrees (c .before .before .loop .inv .2) (c .if1 .taken) (omega arith) (p .whole .within))
+    let p = c .before .before .before .before .pre .1 in
+    (p .0, half-degrees (c .before .before .loop .inv .2) (c .if1 .taken) (omega arith) (p .0 .whole .within), p .2)
 
 walk-walk-requires : (t : ℕ) → walk-lts.Need-walk-requires (walk-claims t) (walk-at t) walk.Post walk-Inv-loop walk-μ-loop
 unfolding area-words most-parts terms limit
@@ -59,7 +59,7 @@ walk-walk-requires t c κs =
     let p = c .before .before .before .before .before .before .before .before .pre .1 in
     let z = c .before .before .before .rightmost .ensures .yes (c .before .before .if2 .taken) in
     let l = sum-within (z .two-left) (z .two-right) (z .product) in
-    (omega (arith, l, z .two-right), (left-asked (p .0) (z .two-left) (z .two-right) (z .product) (z .pair), rw (c .before .before .before .before .before .before .loop .inv .0) (p .1)))
+    (omega (arith, l, z .two-right), (left-asked (p .0) (z .two-left) (z .two-right) (z .product) (z .pair), rw (c .before .before .before .before .before .before .loop .inv .0) (p .1), p .2))
 
 -- there is a next place
 walk-put-requires : (t : ℕ) → walk-lts.Need-put-requires (walk-claims t) (walk-at t) walk.Post walk-Inv-loop walk-μ-loop

@@ -30,20 +30,28 @@ returns-2 c =
     rw (← e .before .before .before .before .before .before .modulus .ensures)
     (count-shared (e .before .before .check-one .ensures) (sym (e .before .refuses .ensures) ∙ e .if1 .left) (e .before .before .before .before .degree .ensures) (c .before .before .before .shares .ensures) (c .before .before .if2 .taken) (c .before .refused .ensures) (c .unnumbered2 .ensures))
 
+-- the modulus passed No. 1
+made-ready-requires : tie.Need-made-ready-requires
+unfolding terms limit
+made-ready-requires c κs =
+    let e = c .before .before in
+    accepted-modulus (accepted-one (omega arith) (sym (e .before .before .check-one .ensures) ∙ answered (sym (e .before .refuses .ensures) ∙ e .if1 .left)) .modulus)
+
 count-requires : tie.Need-count-requires
 unfolding terms limit
 count-requires c κs =
-    let e = c .before .before .before .before in
+    let e = c .before .before .before .before .before in
     let a = sym (e .before .before .check-one .ensures) ∙ answered (sym (e .before .refuses .ensures) ∙ e .if1 .left) in
     let (w, held, two) = accepted-as (e .before .before .before .before .degree .ensures) (accepted-one (omega arith) a) in
-    record { modulus = w; whole = held; two = two; coprime = c .before .before .before .shares .ensures .no (c .before .before .if2 .left); binomials = c .before .table .ensures }
+    let d = c .before .before .made-ready .ensures in
+    (record { modulus = d .1 .modulus; whole = rw (d .0) held; two = two; coprime = rw (d .0) (c .before .before .before .before .shares .ensures .no (c .before .before .before .if2 .left)); binomials = c .before .table .ensures }, d .1)
 
 -- the number
 returns-3 : tie.Need-returns-3
 returns-3 c =
-    let e = c .before .before .before .before .before in
+    let e = c .before .before .before .before .before .before in
     rw (← e .before .before .before .before .before .before .modulus .ensures)
-    (count-told (e .before .before .check-one .ensures) (sym (e .before .refuses .ensures) ∙ e .if1 .left) (e .before .before .before .before .degree .ensures) (c .before .before .before .before .shares .ensures) (c .before .before .before .if2 .left) (c .count .ensures))
+    (count-told (e .before .before .check-one .ensures) (sym (e .before .refuses .ensures) ∙ e .if1 .left) (e .before .before .before .before .degree .ensures) (c .before .before .before .before .before .shares .ensures) (c .before .before .before .before .if2 .left) (rw (c .before .before .before .made-ready .ensures .0) at (c .count .ensures)))
 
 pub count-chains-spec : {M : Type 1} → statement M
 count-chains-spec =
@@ -61,6 +69,7 @@ count-chains-spec =
     (λ c κs. search needs)
     (λ c κs. search needs)
     returns-2
+    made-ready-requires
     (λ c κs. search needs)
     count-requires
     returns-3)

@@ -46,32 +46,50 @@ returns-3 c =
     rw (← e .before .before .before .before .before .before .before .before .before .before .before .modulus .ensures)
     (nth-shared (e .before .before .before .before .before .before .before .before .before .before .if1 .left) (e .before .before .check-one .ensures) (sym (e .before .refuses .ensures) ∙ e .if2 .left) (e .before .before .before .before .degree .ensures) (c .before .before .before .shares .ensures) (c .before .before .if3 .taken) (e .before .before .before .before .before .before .before .before .clear .ensures) (c .before .refused2 .ensures) (c .unchosen3 .ensures))
 
+-- the modulus passed No. 1
+made-ready-requires : tie.Need-made-ready-requires
+unfolding terms limit
+made-ready-requires c κs =
+    let e = c .before .before in
+    accepted-modulus (accepted-one (long e) (sym (e .before .before .check-one .ensures) ∙ answered (sym (e .before .refuses .ensures) ∙ e .if2 .left)) .modulus)
+
 walk-requires : tie.Need-walk-requires
 unfolding terms limit most-parts area-words
 walk-requires c κs =
-    let e = c .before .before .before .before .before in
+    let e = c .before .before .before .before .before .before in
     let a = sym (e .before .before .check-one .ensures) ∙ answered (sym (e .before .refuses .ensures) ∙ e .if2 .left) in
     let (w, held, two) = accepted-as (e .before .before .before .before .degree .ensures) (accepted-one (long e) a) in
-    (record { modulus = w; whole = held; two = two; coprime = c .before .before .before .before .shares .ensures .no (c .before .before .before .if3 .left); binomials = c .before .before .table .ensures }, omega arith)
+    let d = c .before .before .before .made-ready .ensures in
+    (record { modulus = d .1 .modulus; whole = rw (d .0) held; two = two; coprime = rw (d .0) (c .before .before .before .before .before .shares .ensures .no (c .before .before .before .before .if3 .left)); binomials = c .before .before .table .ensures }, omega arith, d .1)
+
+-- no call makes the area longer or shorter
+kept : (w : tie.After-walk) → length (w .walk .last .1 .1 .1 .0) ≡ length (w .before .before .before .before .before .before .before .before .before .before .before .before .before .before .before .before .before .before .before .before .args .area .now)
+kept w = omega arith
+
+same-length-3 : tie.Need-same-length-3
+same-length-3 c = omega (arith, kept (c .before .before .before .before .before .before))
 
 -- No. 18
 returns-4 : tie.Need-returns-4
 unfolding terms limit most-parts area-words
 returns-4 c =
-    let e = c .before .before .before .before .before .before .before .before .before .before .before .before in
+    let e = c .before .before .before .before .before .before .before .before .before .before .before .before .before in
     rw (← e .before .before .before .before .before .before .before .before .before .before .before .modulus .ensures)
-    (nth-beyond (e .before .before .before .before .before .before .before .before .before .before .if1 .left) (e .before .before .check-one .ensures) (sym (e .before .refuses .ensures) ∙ e .if2 .left) (e .before .before .before .before .degree .ensures) (c .before .before .before .before .before .before .before .before .before .before .before .shares .ensures) (c .before .before .before .before .before .before .before .before .before .before .if3 .left) (e .before .before .before .before .before .before .before .before .clear .ensures)
-    (walked-no (not-true _ (c .before .before .if4 .taken)) (c .before .before .before .before .before .before .walk .ensures)) (c .before .refused3 .ensures) (c .unchosen4 .ensures))
+    (nth-beyond (e .before .before .before .before .before .before .before .before .before .before .if1 .left) (e .before .before .check-one .ensures) (sym (e .before .refuses .ensures) ∙ e .if2 .left) (e .before .before .before .before .degree .ensures) (c .before .before .before .before .before .before .before .before .before .before .before .before .shares .ensures) (c .before .before .before .before .before .before .before .before .before .before .before .if3 .left) (e .before .before .before .before .before .before .before .before .clear .ensures)
+    (walked-no (not-true _ (c .before .before .if4 .taken)) (rw (c .before .before .before .before .before .before .before .before .before .before .made-ready .ensures .0) at (c .before .before .before .before .before .before .walk .ensures))) (c .before .refused3 .ensures) (c .unchosen4 .ensures))
+
+same-length-4 : tie.Need-same-length-4
+same-length-4 c = omega (arith, kept (c .before .before .before .before))
 
 -- the j-th chain
 returns-5 : tie.Need-returns-5
 unfolding terms limit most-parts area-words
 returns-5 c =
-    let e = c .before .before .before .before .before .before .before .before .before .before in
+    let e = c .before .before .before .before .before .before .before .before .before .before .before in
     let a = sym (e .before .before .check-one .ensures) ∙ answered (sym (e .before .refuses .ensures) ∙ e .if2 .left) in
     rw (← e .before .before .before .before .before .before .before .before .before .before .before .modulus .ensures)
-    (nth-told (e .before .before .before .before .before .before .before .before .before .before .if1 .left) (e .before .before .check-one .ensures) (sym (e .before .refuses .ensures) ∙ e .if2 .left) (e .before .before .before .before .degree .ensures) (c .before .before .before .before .before .before .before .before .before .shares .ensures) (c .before .before .before .before .before .before .before .before .if3 .left) (e .before .before .before .before .before .before .before .before .clear .ensures)
-    (accepted-above (accepted-one (long e) a)) (walked-yes (not-false _ (c .if4 .left)) (c .before .before .before .before .walk .ensures)))
+    (nth-told (e .before .before .before .before .before .before .before .before .before .before .if1 .left) (e .before .before .check-one .ensures) (sym (e .before .refuses .ensures) ∙ e .if2 .left) (e .before .before .before .before .degree .ensures) (c .before .before .before .before .before .before .before .before .before .before .shares .ensures) (c .before .before .before .before .before .before .before .before .before .if3 .left) (e .before .before .before .before .before .before .before .before .clear .ensures)
+    (accepted-above (accepted-one (long e) a)) (walked-yes (not-false _ (c .if4 .left)) (rw (c .before .before .before .before .before .before .before .before .made-ready .ensures .0) at (c .before .before .before .before .walk .ensures))))
 
 pub nth-chain-spec : {M : Type 1} → statement M
 unfolding terms limit most-parts area-words
@@ -96,11 +114,12 @@ nth-chain-spec =
     (λ c κs. search needs)
     (λ c. search needs)
     returns-3
+    made-ready-requires
     (λ c κs. search needs)
     walk-requires
     (λ c κs. search needs)
     (λ c κs. search needs)
-    (λ c. search needs)
+    same-length-3
     returns-4
-    (λ c. search needs)
+    same-length-4
     returns-5)

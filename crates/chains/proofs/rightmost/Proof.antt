@@ -10,8 +10,8 @@ use Rattle.chains.proofs.rightmost.Tie as tie
 -- the degrees are shown one by one, so that a pair that is asked for with both exchanged (must-fail/from_the_left) gets past this
 split-at-requires : tie.Need-split-at-requires
 split-at-requires c κs =
-    let (a, d) = c .pre in
-    record { modulus = a .modulus; degrees = record { product = omega (arith, d .product); within = d .within; two-left = omega (arith, d .two-left, d .two-right); two-right = omega (arith, d .two-left, d .two-right) }; whole = a .whole; binomials = a .binomials }
+    let (a, d, y) = c .pre in
+    (record { modulus = a .modulus; degrees = record { product = omega (arith, d .product); within = d .within; two-left = omega (arith, d .two-left, d .two-right); two-right = omega (arith, d .two-left, d .two-right) }; whole = a .whole; binomials = a .binomials }, y)
 
 -- f does not split at s
 returns : tie.Need-returns
@@ -23,7 +23,7 @@ returns c =
 splits-requires : tie.Need-splits-requires
 splits-requires i κs =
     let p = i .before .before .before .before .before .pre in
-    right-asked (p .0) (p .1 .two-left) (p .1 .two-right) (p .1 .product) (hit (sym (i .before .refuses .ensures) ∙ i .if1 .left) (i .before .before .before .before .split-at .ensures))
+    (right-asked (p .0) (p .1 .two-left) (p .1 .two-right) (p .1 .product) (hit (sym (i .before .refuses .ensures) ∙ i .if1 .left) (i .before .before .before .before .split-at .ensures)), p .2)
 
 -- its right part splits
 returns-2 : tie.Need-returns-2

@@ -42,21 +42,25 @@ returns-2 c =
     let t = c .before .before .before .before in
     rw (← w (t .before) .modulus .ensures) (not-proper (passed (t .before)) (t .proper .ensures .no (not-true _ (c .before .before .if2 .taken))) (c .no-parts2 .ensures ∙ ap no-parts (c .before .improper .ensures)))
 
+made-ready-requires : tie.Need-made-ready-requires
+made-ready-requires c κs = accepted-modulus (accepted (c .before .before .before .before .before) .0 .modulus)
+
 changed-pair-requires : tie.Need-changed-pair-requires
 changed-pair-requires c κs =
-    let t = c .before .before .before .before in
+    let t = c .before .before .before .before .before in
+    let d = c .made-ready .ensures in
     let (g, h, l) = accepted (t .before) in
-    let (p, u, e) = t .proper .ensures .yes (not-false _ (c .before .before .if2 .left)) in
+    let (p, u, e) = t .proper .ensures .yes (not-false _ (c .before .before .before .if2 .left)) in
     let s = t .before .before .before .before .before .before in
-    (e, accepted-as (s .before .before .degree .ensures) g .1, accepted-as (s .degree2 .ensures) h .1)
+    (rw (d .0) e, rw (d .0) (accepted-as (s .before .before .degree .ensures) g .1), rw (d .0) (accepted-as (s .degree2 .ensures) h .1), d .1)
 
 returns-3 : tie.Need-returns-3
 returns-3 c =
-    let t = c .before .before .before .before .before in
-    let k = c .changed-pair .ensures in
+    let t = c .before .before .before .before .before .before in
+    let k = rw (c .before .made-ready .ensures .0) at (c .changed-pair .ensures) in
     let s = t .before .before .before .before .before .before in
     rw (← w (t .before) .modulus .ensures)
-    (changed (passed (t .before)) (t .proper .ensures .yes (not-false _ (c .before .before .before .if2 .left)) .0) (k .reduced-left) (k .reduced-right)
+    (changed (passed (t .before)) (t .proper .ensures .yes (not-false _ (c .before .before .before .before .if2 .left)) .0) (k .reduced-left) (k .reduced-right)
     (rw (s .before .before .degree .ensures, s .degree2 .ensures) at (k .pair)) (rw (← k .answered)))
 
 pub change-pair-spec : {M : Type 1} → statement M
@@ -80,5 +84,6 @@ change-pair-spec =
     returns-2
     (λ c. search needs)
     (λ c. search needs)
+    made-ready-requires
     changed-pair-requires
     returns-3)

@@ -41,19 +41,23 @@ returns-2 c =
     let t = c .before .before .before .before in
     rw (← w (t .before) .modulus .ensures) (not-proper (passed (t .before)) (t .proper .ensures .no (not-true _ (c .before .before .if2 .taken))) (c .nothing2 .ensures ∙ ap nothing (c .before .improper .ensures)))
 
+made-ready-requires : tie.Need-made-ready-requires
+made-ready-requires c κs = accepted-modulus (accepted (c .before .before .before .before) .modulus)
+
 changed-requires : tie.Need-changed-requires
 changed-requires c κs =
-    let t = c .before .before .before in
+    let t = c .before .before .before .before in
+    let d = c .made-ready .ensures in
     let f = accepted (t .before) in
-    let (p, l, e) = t .proper .ensures .yes (not-false _ (c .before .if2 .left)) in
-    (e, accepted-as (t .before .before .before .before .before .degree .ensures) f .1)
+    let (p, l, e) = t .proper .ensures .yes (not-false _ (c .before .before .if2 .left)) in
+    (rw (d .0) e, rw (d .0) (accepted-as (t .before .before .before .before .before .degree .ensures) f .1), d .1)
 
 returns-3 : tie.Need-returns-3
 returns-3 c =
-    let t = c .before .before .before .before in
-    let k = c .changed .ensures in
+    let t = c .before .before .before .before .before in
+    let k = rw (c .before .made-ready .ensures .0) at (c .changed .ensures) in
     rw (← w (t .before) .modulus .ensures)
-    (changed (passed (t .before)) (t .proper .ensures .yes (not-false _ (c .before .before .if2 .left)) .0) (k .reduced) (rw (t .before .before .before .before .before .degree .ensures) at (k .changed)) refl)
+    (changed (passed (t .before)) (t .proper .ensures .yes (not-false _ (c .before .before .before .if2 .left)) .0) (k .reduced) (rw (t .before .before .before .before .before .degree .ensures) at (k .changed)) refl)
 
 pub change-polynomial-spec : {M : Type 1} → statement M
 change-polynomial-spec =
@@ -72,5 +76,6 @@ change-polynomial-spec =
     (λ c κs. search needs)
     returns-2
     (λ c. search needs)
+    made-ready-requires
     changed-requires
     returns-3)

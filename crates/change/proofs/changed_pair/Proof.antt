@@ -7,7 +7,7 @@ use Rattle.change.proofs.changed_pair.Statement.{statement}
 use Rattle.change.proofs.changed_pair.Tie as tie
 
 changed-requires : tie.Need-changed-requires
-changed-requires c κs = let a = c .before .before .before .before .before .before in (record { modulus = a .pre .0 .modulus; unit = powers-cancel _ _ _ _ _ _ (a .pre .0 .unit) (reduced (c .power2 .ensures) .same) (reduced (c .before .power .ensures) .same) }, a .pre .1)
+changed-requires c κs = let a = c .before .before .before .before .before .before in (record { modulus = a .pre .0 .modulus; unit = powers-cancel _ _ _ _ _ _ (a .pre .0 .unit) (reduced (c .power2 .ensures) .same) (reduced (c .before .power .ensures) .same) }, a .pre .1, a .pre .3)
 
 returns : tie.Need-returns
 returns c = changed-pair-is (omega arith) refl (c .before .before .before .before .changed-right .ensures) (c .before .before .power .ensures) (c .changed .ensures)

@@ -11,7 +11,7 @@ use Rattle.change.proofs.multiple.Tie as tie
 
 -- the places below k are multiplied
 abbrev Inv-loop : tie.InvT-loop
-Inv-loop p c m q₀ k₀ q k = (k ≤ terms) × Filled terms (λ j. c * coef p j % m) q k
+Inv-loop p c m q₀ k₀ q k = (k ≤ terms) × Filled terms (λ j. c * coef p j % m .number) q k
 
 abbrev μ-loop : tie.MeasureT-loop
 μ-loop p c m q₀ k₀ q k = terms - k
@@ -36,7 +36,7 @@ returns : tie.Need-returns Inv-loop μ-loop
 unfolding reduced terms limit
 returns c =
     filled-all (omega arith) (c .before .loop .inv .1)
-    ∙ table-ext terms _ _ (λ k l. ap (λ (x : ℕ). x % c .before .before .before .args .m) (sym (coef-scaled _ _ k)))
+    ∙ table-ext terms _ _ (λ k l. ap (λ (x : ℕ). x % c .before .before .before .args .m .number) (sym (coef-scaled _ _ k)))
 
 pub multiple-spec : {M : Type 1} → statement M
 multiple-spec =

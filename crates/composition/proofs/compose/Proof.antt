@@ -8,7 +8,7 @@ use Rattle.composition.proofs.compose.Tie as tie
 
 -- p is what Horner's rule has after g's terms from x^i on
 abbrev Inv-loop : tie.InvT-loop
-Inv-loop g h r s m p₀ i₀ d₀ p i d = (i ≤ r + 1) × Partly m r s g h i d p
+Inv-loop g h r s m p₀ i₀ d₀ p i d = (i ≤ r + 1) × Partly (m .number) r s g h i d p
 
 abbrev μ-loop : tie.MeasureT-loop
 μ-loop g h r s m p₀ i₀ d₀ p i d = i

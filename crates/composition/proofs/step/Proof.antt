@@ -12,7 +12,7 @@ use Rattle.composition.proofs.step.Tie as tie
 
 -- the places above k are the step's, and the others still as they were
 abbrev Inv-loop : tie.InvT-loop
-Inv-loop p₀ c h s d m k₀ p k = (k ≤ d) × Down terms (λ j. coef (plus (c ∷ []) (times h p₀)) j % m) k p₀ p
+Inv-loop p₀ c h s d m k₀ p k = (k ≤ d) × Down terms (λ j. coef (plus (c ∷ []) (times h p₀)) j % m .number) k p₀ p
 
 abbrev μ-loop : tie.MeasureT-loop
 μ-loop p₀ c h s d m k₀ p k = k

@@ -17,7 +17,7 @@ mul-w c = omega (arith, c .before .before .before .pre .1 .held .within)
 divide-requires : tie.Need-divide-requires
 divide-requires c κs =
     let p = c .before .before .before .before .pre in
-    (raised-asked (p .0) (p .1) (p .2), p .3)
+    (raised-asked (p .0) (p .1) (p .2), p .3, p .4)
 
 sub-top : tie.Need-sub-top
 sub-top c = omega (arith, mul-le-mul-right {m = 1} (c .before .before .before .before .before .before .before .args .s) (c .before .before .before .before .before .before .before .pre .2))
@@ -41,7 +41,7 @@ digits-requires : tie.Need-digits-requires
 digits-requires c κs =
     let p = c .before .before .before .before .before .before .before .before .before .before .before .before .pre in
     let a = c .before .before .before .before .before .before .before .before .before .before .before .before .args in
-    remainder-asked (a .k * a .s - a .s + 1) (p .0) (c .before .before .before .before .before .before .before .divide .ensures) (omega arith) (omega (arith, p .0 .above-zero, p .3, mul-le-mul-right {m = 1} (c .before .before .before .before .before .before .before .before .before .before .before .before .args .s) (p .2)))
+    (remainder-asked (a .k * a .s - a .s + 1) (p .0) (c .before .before .before .before .before .before .before .divide .ensures) (omega arith) (omega (arith, p .0 .above-zero, p .3, mul-le-mul-right {m = 1} (c .before .before .before .before .before .before .before .before .before .before .before .before .args .s) (p .2))), p .4)
 
 returns-2 : tie.Need-returns-2
 returns-2 c =

@@ -11,7 +11,7 @@ use Rattle.left.proofs.blocks.Statement.{statement}
 use Rattle.left.proofs.blocks.Tie as tie
 
 abbrev Inv-loop : tie.InvT-loop
-Inv-loop p₀ h b k s m w at₀ p at = (w ≡ k * s) × Reached m h s p₀ at p
+Inv-loop p₀ h b k s m w at₀ p at = (w ≡ k * s) × Reached (m .number) h s p₀ at p
 
 abbrev μ-loop : tie.MeasureT-loop
 μ-loop p₀ h b k s m w at₀ p at = length p - at
@@ -27,7 +27,7 @@ block-requires : tie.Need-block-requires Inv-loop μ-loop
 block-requires c κs =
     let p = c .before .before .before .before .before .before .pre in
     let l = c .before .before .loop in
-    rw (lent (l .at) (l .p)) (reached-asked (p .0 .above-zero) (l .inv .1) (p .0), p .1, p .2, omega (arith, length-drop (l .at) (l .p), c .before .loop-test .taken))
+    rw (lent (l .at) (l .p)) (reached-asked (p .0 .above-zero) (l .inv .1) (p .0), p .1, p .2, omega (arith, length-drop (l .at) (l .p), c .before .loop-test .taken), p .3)
 
 returns : tie.Need-returns Inv-loop μ-loop
 returns c =
@@ -51,7 +51,7 @@ digits-requires : tie.Need-digits-requires Inv-loop μ-loop
 digits-requires c κs =
     let p = c .before .before .before .before .before .before .pre in
     let l = c .before .before .loop in
-    rw (lent (l .at) (l .p)) (reached-asked (p .0 .above-zero) (l .inv .1) (p .0))
+    rw (lent (l .at) (l .p)) (reached-asked (p .0 .above-zero) (l .inv .1) (p .0), p .3)
 
 returns-2 : tie.Need-returns-2 Inv-loop μ-loop
 returns-2 c =

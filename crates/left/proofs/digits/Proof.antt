@@ -10,32 +10,32 @@ use Rattle.left.proofs.digits.Statement.{statement}
 use Rattle.left.proofs.digits.Tie as tie
 
 abbrev Inv-loop : tie.InvT-loop
-Inv-loop p₀ h s m at₀ p at = Reached m h s p₀ at p
+Inv-loop p₀ h s m at₀ p at = Reached (m .number) h s p₀ at p
 
 abbrev μ-loop : tie.MeasureT-loop
 μ-loop p₀ h s m at₀ p at = length p - at
 
 loop-holds : tie.Need-loop-holds Inv-loop μ-loop
-loop-holds c = reached-none (c .before .before .pre)
+loop-holds c = reached-none (c .before .before .pre .0)
 
 digit-requires : tie.Need-digit-requires Inv-loop μ-loop
 digit-requires c κs =
-    let d = c .before .before .before .before .before .pre in
+    let d = c .before .before .before .before .before .pre .0 in
     let l = c .before .before .loop in
-    rw (lent (l .at) (l .p)) (reached-asked (d .above-zero) (l .inv) d, omega (arith, length-drop (l .at) (l .p), c .before .loop-test .taken))
+    rw (lent (l .at) (l .p)) (reached-asked (d .above-zero) (l .inv) d, omega (arith, length-drop (l .at) (l .p), c .before .loop-test .taken), c .before .before .before .before .before .pre .1)
 
 same-length : tie.Need-same-length Inv-loop μ-loop
 same-length c = search needs
 
 returns : tie.Need-returns Inv-loop μ-loop
 returns c =
-    let d = c .before .before .before .before .before .before .before .before .before .pre in
+    let d = c .before .before .before .before .before .before .before .before .before .pre .0 in
     let l = c .before .before .before .before .before .before .loop in
     rw (returned (l .at) (l .p) _) (reached-no (d .above-zero) (l .inv) 1 (rw (lent (l .at) (l .p)) at (c .before .before .before .digit .ensures)) (not-true _ (c .if1 .taken)))
 
 loop-again : tie.Need-loop-again Inv-loop μ-loop
 loop-again c =
-    let d = c .before .before .before .before .before .before .before .before .before .pre in
+    let d = c .before .before .before .before .before .before .before .before .before .pre .0 in
     let l = c .before .before .before .before .before .before .loop in
     rw (returned (l .at) (l .p) _) (reached-more (d .above-zero) (l .inv) 1 (omega arith) (omega (arith, c .before .before .before .before .before .loop-test .taken)) (rw (lent (l .at) (l .p)) at (c .before .before .before .digit .ensures)) (not-false _ (c .if1 .left)))
 
@@ -44,7 +44,7 @@ is-constant-requires c κs = search needs
 
 returns-2 : tie.Need-returns-2 Inv-loop μ-loop
 returns-2 c =
-    let d = c .before .before .before .before .before .before .before .pre in
+    let d = c .before .before .before .before .before .before .before .pre .0 in
     let l = c .before .before .before .before .loop in
     rw (take-append-drop (l .at) (l .p)) at (reached-last (d .above-zero) (l .inv) (flat-digits (reached-asked (d .above-zero) (l .inv) d) (omega (arith, length-drop (l .at) (l .p), c .before .before .before .loop-test .left)) (rw (lent (l .at) (l .p)) at (c .is-constant .ensures))))
 

@@ -10,7 +10,7 @@ use Rattle.left.proofs.divide.Statement.{statement}
 use Rattle.left.proofs.divide.Tie as tie
 
 abbrev Inv-loop : tie.InvT-loop
-Inv-loop p₀ h s m i₀ p i = (i ≤ length p₀) × Dividing m h s p₀ i p
+Inv-loop p₀ h s m i₀ p i = (i ≤ length p₀) × Dividing (m .number) h s p₀ i p
 
 abbrev μ-loop : tie.MeasureT-loop
 μ-loop p₀ h s m i₀ p i = i
@@ -29,7 +29,7 @@ unfolding terms
 inner-product-requires c κs =
     let p = c .before .before .before .before .before .before .before .pre in
     let e = c .before .before .before .before .loop .inv .1 .long in
-    (p .0 .modulus, dividing-range (omega arith) (omega arith) (omega arith) (omega arith) (omega (arith, p .0 .right .within, p .0 .right .reduced .long)) (p .0 .right .reduced .long) (c .before .before .smaller .ensures) (c .before .smaller2 .ensures))
+    (p .2, dividing-range (omega arith) (omega arith) (omega arith) (omega arith) (omega (arith, p .0 .right .within, p .0 .right .reduced .long)) (p .0 .right .reduced .long) (c .before .before .smaller .ensures) (c .before .smaller2 .ensures))
 
 subtract-requires : tie.Need-subtract-requires Inv-loop μ-loop
 subtract-requires c κs =

@@ -12,7 +12,7 @@ use Rattle.left.proofs.expand.Tie as tie
 digit-requires : tie.Need-digit-requires
 digit-requires c κs =
     let p = c .before .before .before .pre in
-    (p .0, N.le-of-lt (digits-long (p .2) (p .1)))
+    (p .0, N.le-of-lt (digits-long (p .2) (p .1)), p .3)
 
 returns : tie.Need-returns
 returns c = lowest-no (c .before .before .before .digit .ensures) (not-true _ (c .if1 .taken))
@@ -26,7 +26,7 @@ unfolding terms
 raise-requires c κs =
     let p = c .before .before .before .before .before .before .before .before .before .before .before .pre in
     let k = c .before .before .before .at-once .ensures in
-    (p .0 .modulus, p .0 .right, refl, k .0, omega (arith, p .0 .inside, p .1, N.mul-le-mul-right (c .before .before .before .before .before .before .before .before .before .before .before .args .s) (k .1)))
+    (p .3, p .0 .right, refl, k .0, omega (arith, p .0 .inside, p .1, N.mul-le-mul-right (c .before .before .before .before .before .before .before .before .before .before .before .args .s) (k .1)))
 
 sub-blocks : tie.Need-sub-blocks
 sub-blocks c =
@@ -51,7 +51,7 @@ blocks-requires : tie.Need-blocks-requires
 blocks-requires c κs =
     let p = c .before .before .before .before .before .before .before .before .before .before .before .before .before .before .before .before .pre in
     let l = reached-first (digits-long (p .2) (p .1)) (c .before .before .before .before .before .before .before .before .before .before .before .before .digit .ensures) (not-false _ (c .before .before .before .before .before .before .before .before .before .if1 .left)) in
-    rw (lent _ _) (reached-asked (p .0 .above-zero) l (p .0), c .before .before .before .before .raise .ensures, c .before .before .before .before .before .before .before .before .at-once .ensures .0)
+    rw (lent _ _) (reached-asked (p .0 .above-zero) l (p .0), c .before .before .before .before .raise .ensures, c .before .before .before .before .before .before .before .before .at-once .ensures .0, p .3)
 
 returns-2 : tie.Need-returns-2
 returns-2 c =

@@ -9,7 +9,7 @@ use Rattle.left.proofs.raise.Statement.{statement}
 use Rattle.left.proofs.raise.Tie as tie
 
 abbrev Inv-loop : tie.InvT-loop
-Inv-loop b₀ h k s m i₀ b i = (i ≤ k) × Raised m h s i b
+Inv-loop b₀ h k s m i₀ b i = (i ≤ k) × Raised (m .number) h s i b
 
 abbrev μ-loop : tie.MeasureT-loop
 μ-loop b₀ h k s m i₀ b i = k - i
@@ -17,26 +17,26 @@ abbrev μ-loop : tie.MeasureT-loop
 loop-holds : tie.Need-loop-holds Inv-loop μ-loop
 loop-holds c =
     let p = c .before .before .pre in
-    (omega arith, rw (p .2) (raised-one (omega (arith, p .0 .above-one)) (p .1)))
+    (omega arith, rw (p .2) (raised-one (omega (arith, p .0 .modulus .above-one)) (p .1)))
 
 mul-step : tie.Need-mul-step Inv-loop μ-loop
 unfolding limit
 mul-step c =
     let p = c .before .before .before .before .before .pre in
     let l = c .before .before .loop in
-    omega (arith, raised-room (omega (arith, p .0 .above-one)) (p .1) (c .before .loop-test .taken) (p .4) (l .inv .1) .within)
+    omega (arith, raised-room (omega (arith, p .0 .modulus .above-one)) (p .1) (c .before .loop-test .taken) (p .4) (l .inv .1) .within)
 
 step-requires : tie.Need-step-requires Inv-loop μ-loop
 step-requires c κs =
     let p = c .before .before .before .before .before .pre in
     let l = c .before .before .loop in
-    (p .0, raised-room (omega (arith, p .0 .above-one)) (p .1) (c .before .loop-test .taken) (p .4) (l .inv .1))
+    (p .0, raised-room (omega (arith, p .0 .modulus .above-one)) (p .1) (c .before .loop-test .taken) (p .4) (l .inv .1))
 
 loop-again : tie.Need-loop-again Inv-loop μ-loop
 loop-again c =
     let p = c .before .before .before .before .before .before .before .before .pre in
     let l = c .before .before .before .before .before .loop in
-    (omega arith, raised-more (omega (arith, p .0 .above-one)) (p .1) (c .before .before .before .before .loop-test .taken) (p .4) (l .inv .1) (c .before .before .step .ensures))
+    (omega arith, raised-more (omega (arith, p .0 .modulus .above-one)) (p .1) (c .before .before .before .before .loop-test .taken) (p .4) (l .inv .1) (c .before .before .step .ensures))
 
 returns : tie.Need-returns Inv-loop μ-loop
 returns c =

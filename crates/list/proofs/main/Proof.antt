@@ -14,10 +14,10 @@ use Rattle.list.proofs.main.Statement.{statement}
 use Rattle.list.proofs.main.Tie as tie
 
 abbrev Inv-loop : tie.InvT-loop
-Inv-loop buf₀ out₀ taken₀ buf out taken = (taken ≤ most-read) × (length buf ≡ buffer-bytes) × (length out ≡ most-lines)
+Inv-loop binomials buf₀ out₀ taken₀ buf out taken = (taken ≤ most-read) × (length buf ≡ buffer-bytes) × (length out ≡ most-lines)
 
 abbrev μ-loop : tie.MeasureT-loop
-μ-loop buf₀ out₀ taken₀ buf out taken = most-read - taken
+μ-loop binomials buf₀ out₀ taken₀ buf out taken = most-read - taken
 
 pub main-spec : {M : Type 1} → statement M
 unfolding most-read most-listed buffer-bytes most-lines most-line before-degrees most-field most-digits most-parts most-records record-bytes terms limit
@@ -26,6 +26,7 @@ main-spec =
     (tie.spec
     Inv-loop
     μ-loop
+    (λ c κs. search needs)
     (λ c. search needs)
     (λ c. search needs)
     (λ c. search needs)

@@ -35,7 +35,7 @@ step-spec =
     (λ c. omega arith)
     slice-aggregate-lines
     (λ c κs. search needs)
-    (λ c κs. simp length-take (omega arith))
+    (λ c κs. (simp length-take (omega arith), c .before .before .before .before .before .before .pre .1))
     (λ c. search needs)
     (λ c. omega arith)
     (λ c κs. omega arith)

@@ -15,7 +15,7 @@ unfolding most-read most-listed buffer-bytes most-records record-bytes terms lim
 step-requires c κs =
     let k = c .before .before .before in
     let came = rw (k .more2 .given .1) at (k .before .before .before .before .more .ensures) in
-    omega arith
+    (omega arith, k .before .before .before .before .before .before .before .before .before .pre .1)
 
 slice-aggregate-put : tie.Need-slice-aggregate-put-2
 slice-aggregate-put c = sym (length-take-le _ _ (omega arith))

@@ -1,6 +1,6 @@
 use native.Mathlib.Omega.{arith}
 use borrow.Author.Needs.{needs}
-use Rattle.record.proofs.Answers.{check-answered}
+use Rattle.record.proofs.Answers.{check-answered, one-checked}
 use Rattle.listing.proofs.Telling.{told-refused, told-accepted}
 use Rattle.listing.proofs.line.Statement.{statement}
 use Rattle.listing.proofs.line.Tie as tie
@@ -13,7 +13,7 @@ accepted-line-requires c κs =
     let b = c .before .before .before .before .before .before .before .args .bytes .now in
     let is = c .before .before .before .before .check .ensures in
     let (ok, m, f, n) = check-answered b is (c .before .before .before .refuses .ensures) (c .before .before .if1 .left) in
-    (rw f n, omega arith)
+    (rw (m, f) (one-checked b ok), rw f n, omega arith, c .before .before .before .before .before .before .before .pre .1)
 
 returns-2 : tie.Need-returns-2
 returns-2 c = told-accepted _ (c .before .before .before .before .before .before .before .check .ensures) (c .before .before .before .before .before .before .refuses .ensures) (c .before .before .before .before .before .if1 .left) (c .before .before .accepted-line .ensures)

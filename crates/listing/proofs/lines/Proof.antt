@@ -13,10 +13,10 @@ use Rattle.listing.proofs.lines.Statement.{statement}
 use Rattle.listing.proofs.lines.Tie as tie
 
 abbrev Inv-loop : tie.InvT-loop
-Inv-loop s number out₀ at₀ k₀ w₀ out at k w = Progress s number out₀ at k w out
+Inv-loop s number binomials out₀ at₀ k₀ w₀ out at k w = Progress s number out₀ at k w out
 
 abbrev μ-loop : tie.MeasureT-loop
-μ-loop s number out₀ at₀ k₀ w₀ out at k w = length s - at
+μ-loop s number binomials out₀ at₀ k₀ w₀ out at k w = length s - at
 
 loop-holds : tie.Need-loop-holds Inv-loop μ-loop
 loop-holds c = begun _ _ _
@@ -25,7 +25,7 @@ line-requires : tie.Need-line-requires Inv-loop μ-loop
 unfolding most-lines most-line before-degrees most-field most-digits most-parts most-records record-bytes terms limit
 line-requires c κs =
     let l = c .before .before .before .before .loop in
-    omega (arith, l .inv .put .within, l .inv .whole (c .before .before .before .loop-test .taken))
+    (omega (arith, l .inv .put .within, l .inv .whole (c .before .before .before .loop-test .taken)), c .before .before .before .before .before .before .before .pre .1)
 
 add-k : tie.Need-add-k Inv-loop μ-loop
 unfolding most-records record-bytes terms limit

@@ -1,42 +1,37 @@
 use mathlib.Core.Path.{sym, _∙_}
 use native.Mathlib.Omega.{arith}
 use borrow.Author.Needs.{needs}
-use borrow.Author.Tests.{not-true, not-false}
 use Rattle.algebra.specs.Polynomial.{limit, terms}
-use Rattle.refusal.proofs.Outcomes.{answered}
-use Rattle.polynomial.proofs.Acceptance.{accepted-one, accepted-as}
-use Rattle.pair.proofs.Fitting.{fits-positive, fits-degrees}
-use Rattle.pair.proofs.Answering.{split-refused, split-misfit, split-told}
+use Rattle.pair.proofs.Answering.{split-refused, split-told}
+use Rattle.pair.proofs.Determined.{split-modulus, split-given}
 use Rattle.pair.proofs.split.Statement.{statement}
 use Rattle.pair.proofs.split.Tie as tie
 
-check-one-requires : tie.Need-check-one-requires
+check-split-requires : tie.Need-check-split-requires
 unfolding terms limit
-check-one-requires c κs = record { long = omega arith; is = c .before .degree .ensures }
+check-split-requires c κs = record { long = omega arith; is = c .before .degree .ensures }
 
 returns : tie.Need-returns
-returns c = rw (← c .before .before .before .before .before .before .before .modulus .ensures) (split-refused _ _ _ (c .before .before .before .check-one .ensures) (c .before .before .before .before .before .degree .ensures) (sym (c .before .before .refuses .ensures) ∙ c .before .if1 .taken) (c .no-parts .ensures))
+returns c = rw (← c .before .before .before .before .before .before .before .modulus .ensures) (split-refused _ _ _ (c .before .before .before .check-split .ensures) (sym (c .before .before .refuses .ensures) ∙ c .before .if1 .taken) (c .no-parts .ensures))
 
-returns-2 : tie.Need-returns-2
-returns-2 c = rw (← c .before .before .before .before .before .before .before .before .before .before .modulus .ensures)
-    (split-misfit _ _ _ (c .before .before .before .before .before .before .check-one .ensures) (c .before .before .before .before .before .before .before .before .degree .ensures) (c .before .before .before .fits2 .ensures) (sym (c .before .before .before .before .before .refuses .ensures) ∙ c .before .before .before .before .if1 .left)
-    (not-true _ (c .before .before .if2 .taken)) (c .before .refused .ensures) (c .no-parts2 .ensures))
+-- the modulus passed No. 1
+made-ready-requires : tie.Need-made-ready-requires
+unfolding terms limit
+made-ready-requires c κs = split-modulus _ _ (omega arith) (c .before .before .check-split .ensures) (sym (c .before .refuses .ensures) ∙ c .if1 .left)
 
 -- a left degree that fits is not 0
 div-split-at : tie.Need-div-split-at
-div-split-at c = fits-positive _ _ (sym (c .before .before .fits2 .ensures) ∙ not-false _ (c .before .if2 .left))
+unfolding terms limit
+div-split-at c = let p = split-given (omega arith) (c .before .before .before .before .check-split .ensures) (sym (c .before .before .before .refuses .ensures) ∙ c .before .before .if1 .left) (c .before .before .before .before .before .before .degree .ensures) (c .table .ensures) in omega (arith, p .degrees .two-left)
 
 split-at-requires : tie.Need-split-at-requires
 unfolding terms limit
 split-at-requires c κs =
-    let e = sym (c .before .before .before .before .before .before .check-one .ensures) ∙ answered (sym (c .before .before .before .before .before .refuses .ensures) ∙ c .before .before .before .before .if1 .left) in
-    let (w, hf, f2) = accepted-as (c .before .before .before .before .before .before .before .before .degree .ensures) (accepted-one (omega arith) e) in
-    record { modulus = w; degrees = fits-degrees _ _ (sym (c .before .before .before .fits2 .ensures) ∙ not-false _ (c .before .before .if2 .left)) (hf .within) .1; whole = hf; binomials = c .before .table .ensures }
+    let d = c .before .before .made-ready .ensures in
+    (rw (d .0) (split-given (omega arith) (c .before .before .before .before .before .check-split .ensures) (sym (c .before .before .before .before .refuses .ensures) ∙ c .before .before .before .if1 .left) (c .before .before .before .before .before .before .before .degree .ensures) (c .before .table .ensures)), d .1)
 
-returns-3 : tie.Need-returns-3
-returns-3 c = rw (← c .before .before .before .before .before .before .before .before .before .before .before .modulus .ensures)
-    (split-told _ _ _ (c .before .before .before .before .before .before .before .check-one .ensures) (c .before .before .before .before .before .before .before .before .before .degree .ensures) (c .before .before .before .before .fits2 .ensures) (sym (c .before .before .before .before .before .before .refuses .ensures) ∙ c .before .before .before .before .before .if1 .left)
-    (not-false _ (c .before .before .before .if2 .left)) (c .split-at .ensures))
+returns-2 : tie.Need-returns-2
+returns-2 c = rw (← c .before .before .before .before .before .before .before .before .before .before .modulus .ensures) (split-told _ _ _ (c .before .before .before .before .before .before .check-split .ensures) (c .before .before .before .before .before .before .before .before .degree .ensures) (sym (c .before .before .before .before .before .refuses .ensures) ∙ c .before .before .before .before .if1 .left) (rw (c .before .before .before .made-ready .ensures .0) at (c .split-at .ensures)))
 
 pub split-spec : {M : Type 1} → statement M
 split-spec =
@@ -46,15 +41,12 @@ split-spec =
     (λ c. search needs)
     (λ c κs. search needs)
     (λ c. search needs)
-    check-one-requires
+    check-split-requires
     (λ c κs. search needs)
     (λ c κs. search needs)
     returns
-    (λ c κs. search needs)
-    (λ c κs. search needs)
-    (λ c κs. search needs)
-    returns-2
+    made-ready-requires
     (λ c κs. search needs)
     div-split-at
     split-at-requires
-    returns-3)
+    returns-2)

@@ -1,32 +1,37 @@
-use mathlib.Core.Path.{_≡_, refl, ap}
+use mathlib.Core.Path.{_≡_, refl, ap, _∙_}
 use Prim.Native.Nat.{ℕ, _+_, _-_, _%_, _≤_}
+use native.Mathlib.Nat.{mod-lt}
 use borrow.Author.Needs.{needs}
 use native.Mathlib.Omega.{arith}
-use Rattle.algebra.specs.Number.{choose}
-use Rattle.residue.proofs.Sizes.{under}
 use Rattle.binomial.specs.Triangle.{rows}
-use Rattle.polynomial.proofs.Filling.{Filled, filled-none, filled-more}
+use Rattle.right.specs.Rows.{Scaled}
+use Rattle.right.proofs.Columns.{scaled-none, scaled-more}
 use Rattle.right.proofs.binomials.Statement.{statement}
 use Rattle.right.proofs.binomials.Tie as tie
 
 abbrev Inv-loop : tie.InvT-loop
-Inv-loop table r m b₀ i₀ i-end b i = (i ≤ i-end) × (i-end ≡ r + 1) × Filled rows (λ j. choose r j % m) b i
+Inv-loop table r top u m b₀ i₀ i-end b i = (2 ≤ i) × (i ≤ i-end) × (i-end ≡ top + 1) × Scaled (m .number) r u (i - 1) b
 
 abbrev μ-loop : tie.MeasureT-loop
-μ-loop table r m b₀ i₀ i-end b i = i-end - i
+μ-loop table r top u m b₀ i₀ i-end b i = i-end - i
 
 loop-holds : tie.Need-loop-holds Inv-loop μ-loop
 unfolding rows
-loop-holds c = (omega arith, omega arith, filled-none refl)
+loop-holds c = (omega arith, omega arith, omega arith, scaled-none)
 
-cast-b : tie.Need-cast-b Inv-loop μ-loop
-cast-b c = record { fits = under _ (omega arith) (omega arith) }
+subtract-requires : tie.Need-subtract-requires Inv-loop μ-loop
+subtract-requires c κs = (c .before .before .before .before .before .pre .0 .modulus, omega arith, rw (c .multiply .ensures) (mod-lt _ (omega arith)))
 
 loop-again : tie.Need-loop-again Inv-loop μ-loop
-loop-again c = (omega arith, refl, filled-more (omega arith) (ap (λ (x : ℕ). x % c .before .before .before .args .m) (c .entry .ensures)) (c .before .before .loop .inv .2))
+loop-again c = (
+  omega arith,
+  omega arith,
+  refl,
+  scaled-more (omega arith) (c .before .before .before .before .before .before .pre .4) (omega arith) (omega arith) (c .before .before .remainder .ensures ∙ ap (λ (x : ℕ). x % c .before .before .before .before .before .before .args .m .number) (c .before .before .before .entry .ensures)) (c .before .multiply .ensures) (c .subtract .ensures) (c .before .before .before .before .before .loop .inv .3),
+)
 
 returns : tie.Need-returns Inv-loop μ-loop
-returns c = record { long = c .before .loop .inv .2 .long; is = λ i l. c .before .loop .inv .2 .is i (omega arith) }
+returns c = let e : c .before .loop .i - 1 ≡ c .before .before .args .top = omega arith in rw e at (c .before .loop .inv .3)
 
 pub binomials-spec : {M : Type 1} → statement M
 unfolding rows
@@ -36,10 +41,12 @@ binomials-spec =
     Inv-loop
     μ-loop
     (λ c. omega arith)
+    (λ c. omega arith)
     loop-holds
     (λ c κs. search needs)
-    (λ c. omega arith)
-    cast-b
+    (λ c κs. search needs)
+    (λ c κs. search needs)
+    subtract-requires
     (λ c. omega arith)
     (λ c. omega arith)
     (λ c. omega arith)

@@ -2,28 +2,28 @@ use mathlib.Core.Path.{_≡_}
 use Prim.Native.Nat.{_+_, _-_, _*_, _≤_, _<_}
 use native.Mathlib.Omega.{arith}
 use Rattle.algebra.specs.Polynomial.{limit, terms}
-use Rattle.right.specs.Rows.{Column}
+use Rattle.right.specs.Rows.{words, Column}
 use Rattle.right.proofs.Columns.{column-none, column-more, column-place}
 use Rattle.right.proofs.column.Statement.{statement}
 use Rattle.right.proofs.column.Tie as tie
 
 abbrev Inv-loop : tie.InvT-loop
-Inv-loop t₀ s k n m at₀ i₀ t at i = (i ≤ n) × (at ≡ i * s + k) × Column m s k i t₀ t
+Inv-loop t₀ w k n m at₀ i₀ t at i = (i ≤ n) × (at ≡ i * w + k) × Column (m .number) w k i t₀ t
 
 abbrev μ-loop : tie.MeasureT-loop
-μ-loop t₀ s k n m at₀ i₀ t at i = n - i
+μ-loop t₀ w k n m at₀ i₀ t at i = n - i
 
 loop-holds : tie.Need-loop-holds Inv-loop μ-loop
 loop-holds c = (omega arith, omega arith, column-none)
 
 -- the place that a turn writes is in the list
-place : (c : tie.After-inner-product-arg Inv-loop μ-loop) → c .before .before .loop .at + c .before .before .before .before .args .s < terms
+place : (c : tie.After-inner-product-arg Inv-loop μ-loop) → c .before .before .loop .at + c .before .before .before .before .args .w < words
 place c =
     let a = c .before .before .before .before .args in
-    omega (arith, column-place (c .before .before .loop .i) (a .n) (a .s) (a .k) (omega arith) (omega arith) (c .before .before .before .before .pre .1 .room))
+    omega (arith, column-place (c .before .before .loop .i) (a .n) (a .w) (a .k) (omega arith) (omega arith) (c .before .before .before .before .pre .1 .room))
 
 inner-product-requires : tie.Need-inner-product-requires Inv-loop μ-loop
-unfolding limit terms
+unfolding words terms limit
 inner-product-requires c κs =
     let p = place c in
     (c .before .before .before .before .pre .0, record { order = omega arith; first = omega arith; down = omega arith; second = omega arith; few = omega arith })

@@ -1,6 +1,7 @@
 use Prim.Native.Nat.{_-_, _≤_}
 use native.Mathlib.Omega.{arith}
 use Rattle.algebra.specs.Polynomial.{limit, terms}
+use Rattle.right.specs.Rows.{words}
 use Rattle.right.proofs.Turning.{Turned, turned-none, turned-more, turned-end}
 use Rattle.right.proofs.upside.Statement.{statement}
 use Rattle.right.proofs.upside.Tie as tie
@@ -22,7 +23,7 @@ returns : tie.Need-returns Inv-loop μ-loop
 returns c = turned-end (omega arith) (omega arith) (omega arith) (c .before .loop .inv .2)
 
 pub upside-spec : {M : Type 1} → statement M
-unfolding limit terms
+unfolding limit terms words
 upside-spec =
     tie.close
     (tie.spec

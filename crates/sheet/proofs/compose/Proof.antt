@@ -13,13 +13,13 @@ use Rattle.sheet.proofs.compose.Statement.{statement}
 use Rattle.sheet.proofs.compose.Tie as tie
 
 abbrev Inv-loop : tie.InvT-loop
-Inv-loop area m g₀ i₀ g i = (i ≤ most-parts) × ComposedTo m (place area) i (g .polynomial) (g .degree)
+Inv-loop area m g₀ i₀ g i = (i ≤ most-parts) × ComposedTo (m .number) (place area) i (g .polynomial) (g .degree)
 
 abbrev μ-loop : tie.MeasureT-loop
 μ-loop area m g₀ i₀ g i = most-parts - i
 
 loop-holds : tie.Need-loop-holds Inv-loop μ-loop
-loop-holds c = let q = c .before .before .pre in (omega arith, composed-none (q .0 .above-one) _ (c .identity .ensures))
+loop-holds c = let q = c .before .before .pre in (omega arith, composed-none (q .0 .modulus .above-one) _ (c .identity .ensures))
 
 composed-with-requires : tie.Need-composed-with-requires Inv-loop μ-loop
 unfolding most-parts
@@ -36,7 +36,7 @@ returns c =
     let l = c .before .before .loop in
     let a = turn .before .before .before .args in
     let e : l .i ≡ most-parts = omega arith in
-    l .inv .1 .polynomial-is ∙ ap (λ (n : ℕ). reduced (a .m) (composed (parts-in (place (a .area .now)) n))) e
+    l .inv .1 .polynomial-is ∙ ap (λ (n : ℕ). reduced (a .m .number) (composed (parts-in (place (a .area .now)) n))) e
 
 pub compose-spec : {M : Type 1} → statement M
 unfolding sheet-bytes record-bytes area-words most-parts terms limit

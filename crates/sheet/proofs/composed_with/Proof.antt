@@ -7,25 +7,25 @@ use Rattle.sheet.proofs.composed_with.Statement.{statement}
 use Rattle.sheet.proofs.composed_with.Tie as tie
 
 returns : tie.Need-returns
-returns c = let q = c .before .before .before .pre in composed-skip (q .0 .0 .above-one) (q .0 .3) (q .0 .1) (q .1) (empty-unused _ _ (q .0 .1) (q .0 .2) (c .before .part .ensures) (c .if1 .taken))
+returns c = let q = c .before .before .before .pre in composed-skip (q .0 .0 .modulus .above-one) (q .0 .3) (q .0 .1) (q .1) (empty-unused _ _ (q .0 .1) (q .0 .2) (c .before .part .ensures) (c .if1 .taken))
 
 compose-requires : tie.Need-compose-requires
 compose-requires c κs =
     let one = c .before .before .before in
-    let q = one .before .before .before .pre in (q .0 .0, composed-asks (q .0 .0 .above-one) (q .0 .3) (q .0 .1) (q .1) (handed-used _ _ (q .0 .1) (q .0 .2) (one .before .part .ensures) (one .if1 .left)) (handed-place _ _ (q .0 .1) (q .0 .2) (one .before .part .ensures) (one .if1 .left)) (c .before .before .degree .ensures))
+    let q = one .before .before .before .pre in (q .0 .0, composed-asks (q .0 .0 .modulus .above-one) (q .0 .3) (q .0 .1) (q .1) (handed-used _ _ (q .0 .1) (q .0 .2) (one .before .part .ensures) (one .if1 .left)) (handed-place _ _ (q .0 .1) (q .0 .2) (one .before .part .ensures) (one .if1 .left)) (c .before .before .degree .ensures))
 
 mul-t10 : tie.Need-mul-t10
 unfolding limit
 mul-t10 c =
     let one = c .before .before .before .before in
     let q = one .before .before .before .pre in
-    let z = composed-asks (q .0 .0 .above-one) (q .0 .3) (q .0 .1) (q .1) (handed-used _ _ (q .0 .1) (q .0 .2) (one .before .part .ensures) (one .if1 .left)) (handed-place _ _ (q .0 .1) (q .0 .2) (one .before .part .ensures) (one .if1 .left)) (c .before .before .before .degree .ensures) in
+    let z = composed-asks (q .0 .0 .modulus .above-one) (q .0 .3) (q .0 .1) (q .1) (handed-used _ _ (q .0 .1) (q .0 .2) (one .before .part .ensures) (one .if1 .left)) (handed-place _ _ (q .0 .1) (q .0 .2) (one .before .part .ensures) (one .if1 .left)) (c .before .before .before .degree .ensures) in
     omega (arith, z .within)
 
 returns-2 : tie.Need-returns-2
 returns-2 c =
     let one = c .before .before .before .before in
-    let q = one .before .before .before .pre in composed-more (q .0 .0 .above-one) (q .0 .3) (q .0 .1) (q .1) (handed-used _ _ (q .0 .1) (q .0 .2) (one .before .part .ensures) (one .if1 .left)) (handed-place _ _ (q .0 .1) (q .0 .2) (one .before .part .ensures) (one .if1 .left)) (c .before .before .before .degree .ensures) (c .compose .ensures)
+    let q = one .before .before .before .pre in composed-more (q .0 .0 .modulus .above-one) (q .0 .3) (q .0 .1) (q .1) (handed-used _ _ (q .0 .1) (q .0 .2) (one .before .part .ensures) (one .if1 .left)) (handed-place _ _ (q .0 .1) (q .0 .2) (one .before .part .ensures) (one .if1 .left)) (c .before .before .before .degree .ensures) (c .compose .ensures)
 
 pub composed-with-spec : {M : Type 1} → statement M
 composed-with-spec =

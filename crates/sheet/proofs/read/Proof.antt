@@ -51,21 +51,30 @@ word-requires c κs =
     let one = c .before .before .before .before .before .before .before .before .before .before in
     let (x, y) = room _ _ (passed-on (one .before .before .check-room .ensures) (one .before .refuses .ensures) (one .if1 .left)) in omega (arith, x)
 
+made-ready-requires : tie.Need-made-ready-requires
+made-ready-requires c κs =
+    let three = c .before .before .before in
+    let two = three .before .before .before .before in
+    let one = two .before .before .before .before .before .before in
+    let (passes, k) = taken-composes _ _ (one .before .before .check-room .ensures) (one .before .refuses .ensures) (one .if1 .left) (two .before .before .before .before .take-records .ensures) (two .before .refuses2 .ensures) (two .if2 .left) (three .before .before .check-taken .ensures) (three .before .refuses3 .ensures) (three .if3 .left) in
+    rw (c .modulus .ensures, c .before .before .word .ensures) (accepted-modulus passes)
+
 compose-requires : tie.Need-compose-requires
 compose-requires c κs =
-    let three = c .before .before .before in
+    let three = c .before .before .before .before in
     let two = three .before .before .before .before in
     let one = two .before .before .before .before .before .before in
     let (x, y) = room _ _ (passed-on (one .before .before .check-room .ensures) (one .before .refuses .ensures) (one .if1 .left)) in
     let (passes, k) = taken-composes _ _ (one .before .before .check-room .ensures) (one .before .refuses .ensures) (one .if1 .left) (two .before .before .before .before .take-records .ensures) (two .before .refuses2 .ensures) (two .if2 .left) (three .before .before .check-taken .ensures) (three .before .refuses3 .ensures) (three .if3 .left) in
-    rw (c .modulus .ensures, c .before .before .word .ensures) (accepted-modulus passes, omega (arith, y), k)
+    let d = c .made-ready .ensures in
+    (d .1, omega (arith, y), rw (d .0, c .before .modulus .ensures, c .before .before .before .word .ensures) k)
 
 returns-4 : tie.Need-returns-4
 returns-4 c =
-    let three = c .before .before .before .before in
+    let three = c .before .before .before .before .before in
     let two = three .before .before .before .before in
     let one = two .before .before .before .before .before .before in
-    read-taken _ _ (one .before .before .check-room .ensures) (one .before .refuses .ensures) (one .if1 .left) (two .before .before .before .before .take-records .ensures) (two .before .refuses2 .ensures) (two .if2 .left) (three .before .before .check-taken .ensures) (three .before .refuses3 .ensures) (three .if3 .left) (c .before .before .before .word .ensures) (c .before .modulus .ensures) (c .compose .ensures)
+    read-taken _ _ (one .before .before .check-room .ensures) (one .before .refuses .ensures) (one .if1 .left) (two .before .before .before .before .take-records .ensures) (two .before .refuses2 .ensures) (two .if2 .left) (three .before .before .check-taken .ensures) (three .before .refuses3 .ensures) (three .if3 .left) (c .before .before .before .before .word .ensures) (c .before .before .modulus .ensures) (rw (c .before .made-ready .ensures .0) at (c .compose .ensures))
 
 pub read-spec : {M : Type 1} → statement M
 read-spec =
@@ -87,6 +96,7 @@ read-spec =
     returns-3
     word-requires
     (λ c κs. search needs)
+    made-ready-requires
     compose-requires
     (λ c. search needs)
     returns-4)

@@ -123,7 +123,7 @@ leading-negated-requires : (t : ℕ) → leading-lts.Need-negated-requires (is-m
 leading-negated-requires t c κs = (search needs, law.reads-sound (c .product .ensures))
 
 abbrev product-Inv-loop : product-lts.InvT-loop
-product-Inv-loop s at depth m v₀ k₀ v k = Done a-product a-factor m s at depth k v
+product-Inv-loop s at depth m v₀ k₀ v k = Done a-product a-factor (m .number) s at depth k v
 
 abbrev product-μ-loop : product-lts.MeasureT-loop
 product-μ-loop s at depth m v₀ k₀ v k = length s - k
@@ -153,7 +153,7 @@ product-returns-4 : (t : ℕ) → product-lts.Need-returns-4 (factor-below t, fa
 product-returns-4 t c = law.product-end _ _ _ _ (λ l. absurd (omega (arith, c .loop-test .left))) (c .before .loop .inv)
 
 abbrev sum-Inv-loop : sum-lts.InvT-loop
-sum-Inv-loop s at depth m v₀ k₀ v k = Done a-sum a-product m s at depth k v
+sum-Inv-loop s at depth m v₀ k₀ v k = Done a-sum a-product (m .number) s at depth k v
 
 abbrev sum-μ-loop : sum-lts.MeasureT-loop
 sum-μ-loop s at depth m v₀ k₀ v k = length s - k
@@ -177,7 +177,7 @@ sum-loop-less : (t : ℕ) → sum-lts.Need-loop-less (leading-below t, leading.P
 sum-loop-less t c = omega (arith, (c .before .before .before .before .product .ensures .fine (c .before .before .if3 .left)) .ahead, c .before .before .before .before .before .before .before .before .loop-test .taken)
 
 sum-loop-again : (t : ℕ) → sum-lts.Need-loop-again (leading-below t, leading.Post, is-sign-reads.Asked, is-sign-reads.Learnt, product-below t, product.Post, added-reads.Asked, added-reads.Learnt) (sum-at t) sum.Post sum-Inv-loop sum-μ-loop
-sum-loop-again t c = law.sum-more _ _ _ _ (c .before .before .before .before .before .before .before .before .before .loop .inv) (c .before .before .before .before .before .before .before .before .loop-test .taken) (c .before .before .before .before .before .before .is-sign .ensures .0 (not-false _ (c .before .before .before .before .before .if2 .left))) (omega arith) (c .before .before .before .before .product .ensures .fine (c .before .before .if3 .left)) (c .added .ensures)
+sum-loop-again t c = law.sum-more _ _ _ _ (c .before .before .before .before .before .before .before .before .before .loop .inv) (c .before .before .before .before .before .before .before .before .loop-test .taken) (c .before .before .before .before .before .before .is-sign .ensures .0 (not-false _ (c .before .before .before .before .before .if2 .left))) (omega (arith, c .before .before .before .before .before .before .before .before .before .before .before .before .before .before .before .pre .1)) (c .before .before .before .before .product .ensures .fine (c .before .before .if3 .left)) (c .added .ensures)
 
 sum-returns-4 : (t : ℕ) → sum-lts.Need-returns-4 (leading-below t, leading.Post, is-sign-reads.Asked, is-sign-reads.Learnt, product-below t, product.Post, added-reads.Asked, added-reads.Learnt) (sum-at t) sum.Post sum-Inv-loop sum-μ-loop
 sum-returns-4 t c = law.sum-end _ _ _ _ (λ l. absurd (omega (arith, c .loop-test .left))) (c .before .loop .inv)

@@ -18,14 +18,14 @@ returns-2 c = rw (← c .before .before .before .before .before .modulus .ensure
 returns-3 : tie.Need-returns-3
 returns-3 c = rw (← c .before .before .before .before .before .before .modulus .ensures) (unsized (passed-on (c .before .before .before .before .before .check-modulus .ensures) (c .before .before .before .before .refuses .ensures) (c .before .before .before .if1 .left)) (λ z. omega (arith, z .few, c .before .if3 .taken)) (c .refused2 .ensures))
 
-sum-requires : tie.Need-sum-requires
-sum-requires c κs = accepted-modulus (passed-on (c .before .before .before .before .check-modulus .ensures) (c .before .before .before .refuses .ensures) (c .before .before .if1 .left))
+made-ready-requires : tie.Need-made-ready-requires
+made-ready-requires c κs = accepted-modulus (passed-on (c .before .before .before .before .check-modulus .ensures) (c .before .before .before .refuses .ensures) (c .before .before .if1 .left))
 
 judged-requires : tie.Need-judged-requires
 judged-requires c κs = reads-sound (c .sum .ensures)
 
 returns-4 : tie.Need-returns-4
-returns-4 c = rw (← c .before .before .before .before .before .before .before .modulus .ensures) (c .judged .ensures _ (passed-on (c .before .before .before .before .before .before .check-modulus .ensures) (c .before .before .before .before .before .refuses .ensures) (c .before .before .before .before .if1 .left)) (record { some = omega (arith, c .before .before .before .if2 .left); few = omega (arith, c .before .before .if3 .left) }) (c .before .sum .ensures))
+returns-4 c = rw (← c .before .before .before .before .before .before .before .before .modulus .ensures) (c .judged .ensures _ (passed-on (c .before .before .before .before .before .before .before .check-modulus .ensures) (c .before .before .before .before .before .before .refuses .ensures) (c .before .before .before .before .before .if1 .left)) (record { some = omega (arith, c .before .before .before .before .if2 .left); few = omega (arith, c .before .before .before .if3 .left) }) (rw (c .before .before .made-ready .ensures .0) at (c .before .sum .ensures)))
 
 pub read-spec : {M : Type 1} → statement M
 read-spec =
@@ -40,6 +40,7 @@ read-spec =
     returns-2
     (λ c κs. search needs)
     returns-3
-    sum-requires
+    made-ready-requires
+    (λ c κs. search needs)
     judged-requires
     returns-4)

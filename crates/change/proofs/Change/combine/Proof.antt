@@ -34,15 +34,15 @@ returns-3 c =
     let t = c .before .before .before .before in
     rw (← t .before .before .before .before .before .before .before .modulus .ensures) (not-proper (passed (t .before .before .before .before)) (λ p. t .proper2 .ensures .no (not-true _ (c .before .before .if3 .taken))) (c .unchanged3 .ensures ∙ ap unchanged (c .before .improper2 .ensures)))
 
-combined-requires : tie.Need-combined-requires
-combined-requires c κs = accepted-modulus (passed (c .before .before .before .before .before .before))
+made-ready-requires : tie.Need-made-ready-requires
+made-ready-requires c κs = accepted-modulus (passed (c .before .before .before .before .before .before))
 
 returns-4 : tie.Need-returns-4
 returns-4 c =
-    let second = c .before .before .before in
+    let second = c .before .before .before .before in
     let first = second .before .before .before in
     rw (← first .before .before .before .before .modulus .ensures)
-    (combined (passed (first .before)) (first .proper .ensures .yes (not-false _ (second .before .if2 .left)) .0) (second .proper2 .ensures .yes (not-false _ (c .before .if3 .left)) .0) (rw (c .combined .ensures)))
+    (combined (passed (first .before)) (first .proper .ensures .yes (not-false _ (second .before .if2 .left)) .0) (second .proper2 .ensures .yes (not-false _ (c .before .before .if3 .left)) .0) (rw (c .combined .ensures, c .before .made-ready .ensures .0)))
 
 pub combine-spec : {M : Type 1} → statement M
 combine-spec =
@@ -61,5 +61,6 @@ combine-spec =
     (λ c κs. search needs)
     (λ c κs. search needs)
     returns-3
-    combined-requires
+    made-ready-requires
+    (λ c κs. search needs)
     returns-4)

@@ -26,13 +26,19 @@ returns-2 c =
     let t = c .before .before .before .before in
     rw (← t .before .before .before .before .modulus .ensures) (not-proper (passed (t .before)) (t .proper .ensures .no (not-true _ (c .before .before .if2 .taken))) (c .unchanged2 .ensures ∙ ap unchanged (c .before .improper .ensures)))
 
+made-ready-requires : tie.Need-made-ready-requires
+made-ready-requires c κs = accepted-modulus (passed (c .before .before .before))
+
 undone-requires : tie.Need-undone-requires
-undone-requires c κs = let (p, l, e) = c .before .before .proper .ensures .yes (not-false _ (c .if2 .left)) in (e, l, p .origin-below)
+undone-requires c κs =
+    let (p, l, e) = c .before .before .before .proper .ensures .yes (not-false _ (c .before .if2 .left)) in
+    let d = c .made-ready .ensures in
+    (rw (d .0) e, rw (d .0) l, rw (d .0) (p .origin-below), d .1)
 
 returns-3 : tie.Need-returns-3
 returns-3 c =
-    let t = c .before .before .before in
-    rw (← t .before .before .before .before .modulus .ensures) (undone (passed (t .before)) (t .proper .ensures .yes (not-false _ (c .before .if2 .left)) .0) (c .undone .ensures) refl)
+    let t = c .before .before .before .before in
+    rw (← t .before .before .before .before .modulus .ensures) (undone (passed (t .before)) (t .proper .ensures .yes (not-false _ (c .before .before .if2 .left)) .0) (rw (c .before .made-ready .ensures .0) at (c .undone .ensures)) refl)
 
 pub undo-spec : {M : Type 1} → statement M
 undo-spec =
@@ -47,5 +53,6 @@ undo-spec =
     (λ c κs. search needs)
     (λ c κs. search needs)
     returns-2
+    made-ready-requires
     undone-requires
     returns-3)
