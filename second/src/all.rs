@@ -2,15 +2,15 @@
 
 use crate::entry::Entry;
 use crate::law::{
-    self, asked_twice, changed_chain, changed_chains, changed_split, every_composed, first_chain,
-    read_composed, read_written, round_trip, text_composed, text_in_brackets, text_read_back,
-    text_written_again, undone_chains, written_read,
+    self, asked_twice, changed_chain, changed_chains, changed_quick, changed_split, every_composed,
+    first_chain, quick_below, quick_split, read_composed, read_written, round_trip, text_composed,
+    text_in_brackets, text_read_back, text_written_again, undone_chains, written_read,
 };
 use crate::operation::{
     self, chain, change_pair, change_polynomial, check, combine, compose, count_chains,
-    every_chain, left_part, near_left_part, near_split, near_text, nth_chain, part, read_sheet,
-    read_text, split, tiny_chain, tiny_chains, tiny_left_part, tiny_split, tiny_text, undo,
-    write_sheet, write_text,
+    every_chain, left_part, near_left_part, near_quick, near_split, near_text, nth_chain, part,
+    quick, read_sheet, read_text, split, tiny_chain, tiny_chains, tiny_left_part, tiny_quick,
+    tiny_split, tiny_text, undo, write_sheet, write_text,
 };
 
 pub const ALL: &[Entry] = &[
@@ -22,6 +22,9 @@ pub const ALL: &[Entry] = &[
     operation::entry::<split::Split>(),
     operation::entry::<tiny_split::TinySplit>(),
     operation::entry::<near_split::NearSplit>(),
+    operation::entry::<quick::Quick>(),
+    operation::entry::<tiny_quick::TinyQuick>(),
+    operation::entry::<near_quick::NearQuick>(),
     operation::entry::<change_polynomial::ChangePolynomial>(),
     operation::entry::<change_pair::ChangePair>(),
     operation::entry::<combine::Combine>(),
@@ -41,6 +44,9 @@ pub const ALL: &[Entry] = &[
     operation::entry::<write_text::WriteText>(),
     law::entry::<round_trip::RoundTrip>(),
     law::entry::<changed_split::ChangedSplit>(),
+    law::entry::<quick_split::QuickSplit>(),
+    law::entry::<quick_below::QuickBelow>(),
+    law::entry::<changed_quick::ChangedQuick>(),
     law::entry::<changed_chain::ChangedChain>(),
     law::entry::<first_chain::FirstChain>(),
     law::entry::<every_composed::EveryComposed>(),

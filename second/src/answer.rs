@@ -2,6 +2,7 @@
 //! every word or different.
 
 pub mod chains;
+pub mod quick;
 pub mod text;
 
 use crate::change::{Change, IDENTITY};

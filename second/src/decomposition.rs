@@ -73,6 +73,15 @@ fn right_part(f: &Polynomial, r: usize, s: usize, m: Modulus) -> Polynomial {
     h
 }
 
+/// The only normal pair that f can have at r, whether it composes to f or not; r
+/// divides the degree of f and has an inverse modulo m.
+pub fn forced_pair(f: &Polynomial, r: usize, m: Modulus) -> Pair {
+    let s = f.degree().expect("f is taken") / r;
+    let h = right_part(f, r, s, m);
+    let g = forced_left_part(f, &powers(&h, r, m), s, m);
+    (g, h)
+}
+
 /// The normal pair of f at r, if there is one; r divides the degree of f and
 /// has an inverse modulo m.
 pub fn pair(f: &Polynomial, r: usize, m: Modulus) -> Option<Pair> {

@@ -6,6 +6,7 @@
 //! memory that the desk had no right to write.
 
 use crate::answer::chains::{Counted, Jth};
+use crate::answer::quick::Quick;
 use crate::answer::text::WrittenText;
 use crate::answer::{Chained, Changed, Checked, One, Place, SheetRead, Two, Written};
 use crate::change::Change;
@@ -45,6 +46,7 @@ extern "C" {
         g: *mut Coefficients,
         h: *mut Coefficients,
     ) -> Refused;
+    fn desk_quick(m: u32, f: *const Coefficients, r: usize, answer: *mut [usize; 2]) -> Refused;
     fn desk_change_polynomial(
         m: u32,
         f: *const Coefficients,
@@ -222,6 +224,21 @@ pub fn split(m: Modulus, f: &Polynomial, r: usize, random: &mut Random) -> Resul
         refused,
         g: Polynomial(g.give_back("the left part g")?),
         h: Polynomial(h.give_back("the right part h")?),
+    })
+}
+
+/// Whether f splits at r, and the power that is reported.
+pub fn quick(m: Modulus, f: &Polynomial, r: usize, random: &mut Random) -> Result<Quick, String> {
+    let mut f = GivenPolynomial::new(f, random);
+    let mut answer = lent_counts::<2>(random);
+    // SAFETY: as said above of all calls.
+    let refused = unsafe { desk_quick(m.word(), f.pointer(), r, answer.pointer()) };
+    f.give_back("the given f")?;
+    let [yes, power] = answer.give_back("the answer")?;
+    Ok(Quick {
+        refused,
+        yes,
+        power,
     })
 }
 

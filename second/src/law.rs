@@ -5,9 +5,12 @@
 pub mod asked_twice;
 pub mod changed_chain;
 pub mod changed_chains;
+pub mod changed_quick;
 pub mod changed_split;
 pub mod every_composed;
 pub mod first_chain;
+pub mod quick_below;
+pub mod quick_split;
 pub mod read_composed;
 pub mod read_written;
 pub mod round_trip;

@@ -9,20 +9,21 @@
 //! 000, the right part as a root of the reversed polynomial, changes by
 //! binomials, every complete chain (request No. 5) by trying all degrees that its
 //! parts could have, a typed text (request No. 6) by what may follow what and then
-//! step by step, and for tiny sizes all of it by going through all g and h, all
-//! lists of parts or all ways to cut a text. In a usual run left part and split are
-//! asked at all degrees of a pair, of g(h) and of f that is another at any one
-//! place; with fewer inputs, at some of them. Then it holds the desk against
-//! itself, as the demands 2 and 3 say, and requests Nos. 2, 5 and 6 of its sheets,
-//! of all chains and of its texts. About one input in seven is at modulus 2^32
+//! step by step, a quick no (request No. 7) by the forced pair composed in full, and
+//! for tiny sizes all of it by going through all g and h, all lists of parts or all
+//! ways to cut a text. In a usual run left part, split and quick no are asked at all
+//! degrees of a pair, of g(h) and of f that is another at any one place; with fewer
+//! inputs, at some of them. Then it holds the desk against itself, as the demands 2
+//! and 3 say, and requests Nos. 2, 5, 6 and 7 of its sheets, of all chains, of its
+//! texts and of its quick answers. About one input in seven is at modulus 2^32
 //! (request No. 3), and what was met there is counted apart.
 //!
 //! N inputs are compared over all operations, after the worked cases of 01, of
-//! 2^32 and of texts. Each operation gets its share of them, the cheaper ones more;
-//! without N it is what the operation calls usual, and with 10000 or more at least
-//! 3000, so that there may be more than N. An input depends on the seed (1 if not
-//! given), the operation and its index only, so a difference at input I is met
-//! again by `--seed S --only NAME --inputs N` with N above I.
+//! 2^32, of texts and of quick answers. Each operation gets its share of them, the
+//! cheaper ones more; without N it is what the operation calls usual, and with
+//! 10000 or more at least 3000, so that there may be more than N. An input depends
+//! on the seed (1 if not given), the operation and its index only, so a difference
+//! at input I is met again by `--seed S --only NAME --inputs N` with N above I.
 //!
 //! With a PROGRAM it compares whole runs too: the program gets generated files
 //! of records, and what it writes is compared to the last byte. With --list it
@@ -55,6 +56,7 @@ mod operation;
 mod polynomial;
 mod powers;
 mod progress;
+mod quick;
 mod random;
 mod record;
 mod refused;
@@ -68,6 +70,7 @@ mod tally;
 mod text;
 mod tiny;
 mod worked;
+mod worked_quick;
 mod worked_sheets;
 mod worked_texts;
 

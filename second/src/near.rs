@@ -63,6 +63,8 @@ pub struct Near {
     pub asked: Asked,
     pub r: usize,
     pub other: Other,
+    /// The k of what is another; without meaning where nothing is.
+    pub place: usize,
     /// The left part of f for h, or that there is none, where the way in which
     /// f was made tells it.
     pub known: Option<One>,
@@ -124,7 +126,7 @@ impl Walk {
 }
 
 /// All r and s, both at least 2, with a product of 126 at most.
-fn every_two_degrees() -> impl Iterator<Item = (usize, usize)> {
+pub fn every_two_degrees() -> impl Iterator<Item = (usize, usize)> {
     let with = |r| (2..=TOP_DEGREE / r).map(move |s| (r, s));
     (2..=TOP_DEGREE / 2).flat_map(with)
 }
@@ -161,6 +163,7 @@ impl Stretch {
             asked,
             r,
             other,
+            place,
             known,
         }
     }

@@ -3,6 +3,7 @@
 //! theorem stands behind these answers, only the definition of a pair.
 
 pub mod chains;
+pub mod forced;
 pub mod texts;
 
 use crate::decomposition::{part_degrees, Pair};

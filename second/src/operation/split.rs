@@ -28,7 +28,7 @@ pub const UNFIT: Refused = Refused::plain(6);
 pub const SHARING: Refused = Refused::plain(5);
 pub const NO_PAIR: Refused = Refused::plain(7);
 
-const ORDER: &[Refused] = &[
+pub const ORDER: &[Refused] = &[
     Refused::plain(1),
     Refused::about(2, FIRST),
     Refused::about(3, FIRST),
@@ -126,7 +126,7 @@ fn kinds_answered(n: usize, r: usize, m: Modulus) -> Vec<&'static str> {
     modulus.into_iter().chain(highest).chain(degrees).collect()
 }
 
-fn kinds_unfit(n: usize, r: usize) -> Vec<&'static str> {
+pub fn kinds_unfit(n: usize, r: usize) -> Vec<&'static str> {
     let kind = match r {
         0 => "r = 0",
         1 => "r = 1",
@@ -193,7 +193,7 @@ fn any_splitting(random: &mut Random) -> Shape {
     }
 }
 
-fn left_degree(n: usize, random: &mut Random) -> usize {
+pub fn left_degree(n: usize, random: &mut Random) -> usize {
     let fitting: Vec<usize> = part_degrees(n).collect();
     random.pick(&fitting)
 }
@@ -256,7 +256,7 @@ fn unfit_left_degree(n: usize, random: &mut Random) -> usize {
 
 /// All n from 2 to 126, and for each all r from 0 to n + 1: that is n + 2 of
 /// them.
-fn at_every_r(place: u64, random: &mut Random) -> SplitAt {
+pub fn at_every_r(place: u64, random: &mut Random) -> SplitAt {
     let all = (2..=TOP_DEGREE).map(|n| n + 2).sum::<usize>();
     // A prime that does not divide the number of places, 8250: steps of this
     // width come to all of them, and soon to every region.
