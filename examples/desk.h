@@ -68,6 +68,10 @@ desk_refused desk_compose(uint32_t m, const desk_polynomial g, const desk_polyno
 desk_refused desk_left_part(uint32_t m, const desk_polynomial f, const desk_polynomial h, desk_polynomial g);
 /* the pair with f = g(h), g of degree r and h(0) = 0 */
 desk_refused desk_split(uint32_t m, const desk_polynomial f, size_t r, desk_polynomial g, desk_polynomial h);
+/* whether there is that pair, refused as desk_split is, but not by No. 7; answer: 1 for yes or 0 for no, then 0 with a yes, or
+ * the highest power of x at which f and g(h) differ, where h is the right part that f's leading terms force, of degree s, and g
+ * the monic one for which f and g(h) agree at every power x^(is) */
+desk_refused desk_quick(uint32_t m, const desk_polynomial f, size_t r, size_t answer[2]);
 /* f, or the pair g and h, changed by (a, b) */
 desk_refused desk_change_polynomial(uint32_t m, const desk_polynomial f, uint32_t a, uint32_t b, desk_polynomial out);
 desk_refused desk_change_pair(uint32_t m, const desk_polynomial g, const desk_polynomial h, uint32_t a, uint32_t b,

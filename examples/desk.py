@@ -66,6 +66,7 @@ class Refused(Exception):
 
 
 Checked = collections.namedtuple("Checked", "modulus polynomial degree")
+Quick = collections.namedtuple("Quick", "yes power")
 Chain = collections.namedtuple("Chain", "parts tries price")
 NthChain = collections.namedtuple("NthChain", "parts price")
 Sheet = collections.namedtuple("Sheet", "modulus parts polynomial")
@@ -82,6 +83,7 @@ _Polynomial = _Word * TERMS
 _Change = _Word * 2
 _Numbers = _Size * 3
 _NthNumbers = _Size * 2
+_Quick = _Size * 2
 _Place = _Size * 2
 _Sheet = ctypes.c_uint8 * SHEET
 
@@ -95,6 +97,7 @@ _FUNCTIONS = {
     "compose": (_Word, _Polynomial, _Polynomial, _Polynomial),
     "left_part": (_Word, _Polynomial, _Polynomial, _Polynomial),
     "split": (_Word, _Polynomial, _Size, _Polynomial, _Polynomial),
+    "quick": (_Word, _Polynomial, _Size, _Quick),
     "change_polynomial": (_Word, _Polynomial, _Word, _Word, _Polynomial),
     "change_pair": (_Word, _Polynomial, _Polynomial, _Word, _Word, _Polynomial, _Polynomial),
     "combine": (_Word, _Word, _Word, _Word, _Word, _Change),
@@ -199,6 +202,18 @@ def split(m, f, r):
     g, h = _Polynomial(), _Polynomial()
     _answered(_desk.desk_split(_number(m), _polynomial(f), _number(r, _Size), g, h))
     return _trimmed(g), _trimmed(h)
+
+
+def quick(m, f, r):
+    """Whether f has a pair at r, and the highest power of x that differs, 0 with a yes.
+
+    What differs are f and g(h), where h is the right part that f's leading terms force and g the monic one for which they agree
+    at every power of x that the degree of h divides. Refused as split is; a no is an answer, and no No. 7.
+    """
+    answer = _Quick()
+    _answered(_desk.desk_quick(_number(m), _polynomial(f), _number(r, _Size), answer))
+    yes, power = answer
+    return Quick(yes == 1, power)
 
 
 def change_polynomial(m, f, change):

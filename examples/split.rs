@@ -1,4 +1,4 @@
-//! Splits 01's polynomial B at each left degree, and prints its chain.
+//! Splits 01's polynomial B at each left degree, asks there for the quick answer, and prints its chain.
 
 const TERMS: usize = 127;
 const WORDS: usize = 6 * TERMS;
@@ -13,6 +13,7 @@ struct Refused {
 
 extern "C" {
     fn desk_split(m: u32, f: *const Polynomial, r: usize, g: *mut Polynomial, h: *mut Polynomial) -> Refused;
+    fn desk_quick(m: u32, f: *const Polynomial, r: usize, answer: *mut [usize; 2]) -> Refused;
     fn desk_chain(m: u32, f: *const Polynomial, area: *mut u32, count: usize, numbers: *mut [usize; 3]) -> Refused;
     fn desk_part(area: *const u32, count: usize, i: usize, place: *mut [usize; 2]);
 }
@@ -35,6 +36,13 @@ fn main() {
             print("  h", &h);
         }
         assert!(refused.polynomial == 0 && refused.power == 0);
+        let mut answer = [0; 2];
+        let refused = unsafe { desk_quick(101, &f, r, &mut answer) };
+        assert!(refused.number == 0);
+        match answer {
+            [1, 0] => println!("  quick: yes"),
+            [_, power] => println!("  quick: no, at x^{power}"),
+        }
     }
     let (mut area, mut numbers) = ([0; WORDS], [0; 3]);
     unsafe { desk_chain(101, &f, area.as_mut_ptr(), WORDS, &mut numbers) };

@@ -30,6 +30,7 @@ static void check(void) { desk_check(square, sizeof square, change, left, number
 static void compose(void) { desk_compose(m, g, h, left); }
 static void left_part(void) { desk_left_part(m, f, h, left); }
 static void split(void) { desk_split(m, f, r, left, right); }
+static void quick(void) { desk_quick(m, f, r, numbers); }
 static void change_polynomial(void) { desk_change_polynomial(m, f, 3, 2, left); }
 static void change_pair(void) { desk_change_pair(m, g, h, 3, 2, left, right); }
 static void combine(void) { desk_combine(m, 3, 2, 5, 7, change); }
@@ -48,9 +49,9 @@ static const struct {
     void (*run)(void);
 } functions[] = {
     {"desk_check", check}, {"desk_compose", compose}, {"desk_left_part", left_part}, {"desk_split", split},
-    {"desk_change_polynomial", change_polynomial}, {"desk_change_pair", change_pair}, {"desk_combine", combine},
-    {"desk_undo", undo}, {"desk_chain", chain}, {"desk_count_chains", count_chains}, {"desk_nth_chain", nth_chain},
-    {"desk_part", part}, {"desk_write_sheet", write_sheet}, {"desk_read_sheet", read_sheet},
+    {"desk_quick", quick}, {"desk_change_polynomial", change_polynomial}, {"desk_change_pair", change_pair},
+    {"desk_combine", combine}, {"desk_undo", undo}, {"desk_chain", chain}, {"desk_count_chains", count_chains},
+    {"desk_nth_chain", nth_chain}, {"desk_part", part}, {"desk_write_sheet", write_sheet}, {"desk_read_sheet", read_sheet},
     {"desk_read_text", read_text}, {"desk_write_text", write_text},
 };
 

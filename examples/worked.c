@@ -1,4 +1,4 @@
-/* 01's worked polynomials, 02's x^6 and (x^2+x)^2-3*x, and others modulo 25 and 2^32, asked of all sixteen functions. It is C and
+/* 01's worked polynomials, 02's x^6 and (x^2+x)^2-3*x, and others modulo 25 and 2^32, asked of all seventeen functions. It is C and
  * C++; worked.py asks the same and prints the same. */
 #include <inttypes.h>
 #include <stdio.h>
@@ -39,6 +39,16 @@ static void two(const char *name, desk_refused refused, const desk_polynomial g,
     print(g, DESK_TERMS);
     print(h, DESK_TERMS);
     printf("\n");
+}
+
+static void quick(const char *name, uint32_t m, const desk_polynomial f, size_t r) {
+    size_t answer[2];
+    if (!answered(name, desk_quick(m, f, r, answer))) return;
+    if (answer[0] == 1) {
+        printf(" yes\n");
+    } else {
+        printf(" no, at x^%zu\n", answer[1]);
+    }
 }
 
 static void change(const char *name, desk_refused refused, const uint32_t made[2]) {
@@ -183,6 +193,22 @@ static void pairs(void) {
     one("J, the other", desk_compose(2, square, square_and_x, f), f);
 }
 
+static void quick_answers(void) {
+    desk_polynomial f;
+    quick("A at 3, quick", 101, A, 3);
+    quick("A at 2, quick", 101, A, 2);
+    quick("B at 3, quick", 101, B, 3);
+    quick("B at 2, quick", 101, B, 2);
+    quick("E at 4, quick", 101, E, 4);
+    memcpy(f, E, sizeof f);
+    f[1] += 1;
+    quick("E + x at 4, quick", 101, f, 4);
+    quick("D at 3, quick", 4, D, 3);
+    quick("H at 2, quick", 2, H, 2);
+    quick("A at 4, quick", 101, A, 4);
+    quick("E at 4, quick, m 9", 9, E, 4);
+}
+
 static void changes(void) {
     desk_polynomial f, g, h;
     uint32_t made[2];
@@ -308,6 +334,8 @@ static void whole_words(void) {
     memcpy(f, N, sizeof f);
     f[1] += 1;
     two("2^32, N + x split at 3", desk_split(m, f, 3, g, h), g, h);
+    quick("2^32, N at 3, quick", m, N, 3);
+    quick("2^32, N + x at 3, quick", m, f, 3);
     two("2^32, A split at 3", desk_split(m, A, 3, g, h), g, h);
     two("2^32, A split at 2", desk_split(m, A, 2, g, h), g, h);
     one("2^32, B, left part", desk_left_part(m, B, cube_and_3x, g), g);
@@ -369,6 +397,7 @@ static void texts(void) {
 int main(void) {
     desk_polynomial f;
     pairs();
+    quick_answers();
     changes();
     chains();
     every_chain();

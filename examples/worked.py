@@ -34,6 +34,10 @@ def two(pair):
     return " ".join(map(str, pair))
 
 
+def answer(found):
+    return "yes" if found.yes else f"no, at x^{found.power}"
+
+
 def chained(chain):
     return f"{two(chain.parts)}, tries {chain.tries}, price {chain.price}"
 
@@ -75,6 +79,19 @@ def pairs():
     say("I", str, desk.left_part, 2, I, [0, 1, 1])
     say("J, one way", str, desk.compose, 2, [0, 1, 1], SQUARE)
     say("J, the other", str, desk.compose, 2, SQUARE, [0, 1, 1])
+
+
+def quick_answers():
+    say("A at 3, quick", answer, desk.quick, 101, A, 3)
+    say("A at 2, quick", answer, desk.quick, 101, A, 2)
+    say("B at 3, quick", answer, desk.quick, 101, B, 3)
+    say("B at 2, quick", answer, desk.quick, 101, B, 2)
+    say("E at 4, quick", answer, desk.quick, 101, E, 4)
+    say("E + x at 4, quick", answer, desk.quick, 101, [E[0], E[1] + 1, *E[2:]], 4)
+    say("D at 3, quick", answer, desk.quick, 4, D, 3)
+    say("H at 2, quick", answer, desk.quick, 2, H, 2)
+    say("A at 4, quick", answer, desk.quick, 101, A, 4)
+    say("E at 4, quick, m 9", answer, desk.quick, 9, E, 4)
 
 
 def changes():
@@ -196,6 +213,8 @@ def whole_words():
     n = say("2^32, N = P after Q", str, desk.compose, m, p, q)
     say("2^32, N split at 3", two, desk.split, m, n, 3)
     say("2^32, N + x split at 3", two, desk.split, m, [n[0], n[1] + 1, *n[2:]], 3)
+    say("2^32, N at 3, quick", answer, desk.quick, m, n, 3)
+    say("2^32, N + x at 3, quick", answer, desk.quick, m, [n[0], n[1] + 1, *n[2:]], 3)
     say("2^32, A split at 3", two, desk.split, m, A, 3)
     say("2^32, A split at 2", two, desk.split, m, A, 2)
     say("2^32, B, left part", str, desk.left_part, m, B, [0, 3, 0, 1])
@@ -262,6 +281,7 @@ def no_requests():
     no_request(ValueError, desk.split, 101, [0] * (desk.TERMS + 1), 2)
     no_request(ValueError, desk.split, 1 << 32, A, 2)
     no_request(ValueError, desk.split, 101, A, 1 << 64)
+    no_request(ValueError, desk.quick, 101, A, 1 << 64)
     no_request(ValueError, desk.undo, 101, (1, 1 << 32))
     no_request(ValueError, desk.undo, 101, (1, 0, 0))
     no_request(ValueError, desk.chain, 101, A, [1 << 32])
@@ -287,6 +307,7 @@ def no_requests():
 
 if __name__ == "__main__":
     pairs()
+    quick_answers()
     changes()
     chains()
     every_chain()
