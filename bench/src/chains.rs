@@ -3,8 +3,7 @@
 use crate::desk::{desk_count_chains, desk_nth_chain};
 use crate::listing::planted;
 use crate::plain::{
-    accepted, binomials, degree, invert, modulus, split_at, Below, Modulus, Polynomial, Words,
-    TERMS,
+    binomials, check, degree, invert, modulus, split_by, Below, Modulus, Polynomial, Words, TERMS,
 };
 use crate::split::monic;
 use crate::timing::{at, beside, Random};
@@ -16,27 +15,39 @@ const WORDS: usize = PARTS * TERMS;
 /// Fewer calls in a run than in other rows have: the longest search takes 121 splits.
 const CALLS: usize = 5;
 
-/// The pair of f at the right degree s, if there is one. The search is handed it, so that a run which counts the splits can hand
-/// it another one than a run which is timed.
+/// The pair of f, of degree n, at the right degree s, if there is one. The search is handed it, so that a run which counts the
+/// splits can hand it another one than a run which is timed.
 trait Split {
-    fn split(&mut self, f: &Polynomial, s: usize) -> Option<(Polynomial, Polynomial)>;
+    /// The inverse of n, one for a round over its right degrees.
+    fn inverse(&self, n: usize) -> u32;
+    /// The split by the inverse v of n.
+    fn split(&mut self, f: &Polynomial, n: usize, s: usize, v: u32) -> Option<Pair>;
 }
+
+type Pair = (Polynomial, Polynomial);
 
 struct Splitting<'a, M>(M, &'a [u64]);
 
 impl<M: Modulus> Split for Splitting<'_, M> {
-    fn split(&mut self, f: &Polynomial, s: usize) -> Option<(Polynomial, Polynomial)> {
-        let n = degree(f);
-        split_at(f, n, n / s, s, self.1, self.0)
+    fn inverse(&self, n: usize) -> u32 {
+        invert(n as u64, self.0.number()).unwrap()
+    }
+
+    fn split(&mut self, f: &Polynomial, n: usize, s: usize, v: u32) -> Option<Pair> {
+        split_by(f, n, s, v, self.1, self.0)
     }
 }
 
 struct Counting<S>(S, usize);
 
 impl<S: Split> Split for Counting<S> {
-    fn split(&mut self, f: &Polynomial, s: usize) -> Option<(Polynomial, Polynomial)> {
+    fn inverse(&self, n: usize) -> u32 {
+        self.0.inverse(n)
+    }
+
+    fn split(&mut self, f: &Polynomial, n: usize, s: usize, v: u32) -> Option<Pair> {
         self.1 += 1;
-        self.0.split(f, s)
+        self.0.split(f, n, s, v)
     }
 }
 
@@ -45,19 +56,24 @@ fn right_degrees(n: usize) -> impl Iterator<Item = usize> {
     (2..=n / 2).filter(move |s| n % s == 0)
 }
 
-/// The pair of f at s if its right part can stand next to x in a complete chain: it does not split.
-fn pair<S: Split>(by: &mut S, f: &Polynomial, s: usize) -> Option<(Polynomial, Polynomial)> {
-    let (g, h) = by.split(f, s)?;
-    let splits = right_degrees(s).any(|u| by.split(&h, u).is_some());
-    (!splits).then_some((g, h))
+/// Whether f, of degree n, splits.
+fn is_split<S: Split>(by: &mut S, f: &Polynomial, n: usize) -> bool {
+    let v = by.inverse(n);
+    right_degrees(n).any(|s| by.split(f, n, s, v).is_some())
 }
 
-/// The number of complete chains of f. One that has no pair here does not split and is a chain by itself.
-fn count<S: Split>(by: &mut S, f: &Polynomial) -> usize {
-    let mut passed = 0;
-    for s in right_degrees(degree(f)) {
-        if let Some((g, _)) = pair(by, f, s) {
-            passed += count(by, &g);
+/// The pair of f at s if its right part can stand next to x in a complete chain: it does not split.
+fn pair<S: Split>(by: &mut S, f: &Polynomial, n: usize, s: usize, v: u32) -> Option<Pair> {
+    let (g, h) = by.split(f, n, s, v)?;
+    (!is_split(by, &h, s)).then_some((g, h))
+}
+
+/// The number of complete chains of f, of degree n. One that has no pair here does not split and is a chain by itself.
+fn count<S: Split>(by: &mut S, f: &Polynomial, n: usize) -> usize {
+    let (v, mut passed) = (by.inverse(n), 0);
+    for s in right_degrees(n) {
+        if let Some((g, _)) = pair(by, f, n, s, v) {
+            passed += count(by, &g, n / s);
         }
     }
     passed.max(1)
@@ -74,12 +90,13 @@ fn lay(area: &mut [u32], f: &Polynomial, [parts, price]: [usize; 2]) -> Walked {
     Walked::Reached([parts + 1, price + degree(f) - 1])
 }
 
-/// Walks the complete chains of f in their order to the j-th, and lays its parts on the way back, the leftmost first.
-fn walk<S: Split>(by: &mut S, f: &Polynomial, j: usize, area: &mut [u32]) -> Walked {
-    let mut passed = 0;
-    for s in right_degrees(degree(f)) {
-        if let Some((g, h)) = pair(by, f, s) {
-            match walk(by, &g, j - passed, area) {
+/// Walks the complete chains of f, of degree n, in their order to the j-th, and lays its parts on the way back, the leftmost
+/// first.
+fn walk<S: Split>(by: &mut S, f: &Polynomial, n: usize, j: usize, area: &mut [u32]) -> Walked {
+    let (v, mut passed) = (by.inverse(n), 0);
+    for s in right_degrees(n) {
+        if let Some((g, h)) = pair(by, f, n, s, v) {
+            match walk(by, &g, n / s, j - passed, area) {
                 Walked::Reached(numbers) => return lay(area, &h, numbers),
                 Walked::Passed(more) => passed += more,
             }
@@ -91,25 +108,26 @@ fn walk<S: Split>(by: &mut S, f: &Polynomial, j: usize, area: &mut [u32]) -> Wal
     }
 }
 
-fn chained(m: u32, f: &Polynomial) -> bool {
-    accepted(m, f) && invert(degree(f) as u64, modulus(m)).is_some()
+/// The degree of an f that has chains.
+fn chained(m: u32, f: &Polynomial) -> Option<usize> {
+    let n = check(m, f).ok()?;
+    invert(n as u64, modulus(m)).map(|_| n)
 }
 
 fn number(m: u32, f: &Polynomial, table: &[u64]) -> Option<usize> {
-    chained(m, f).then(|| match m {
-        0 => count(&mut Splitting(Words, table), f),
-        _ => count(&mut Splitting(Below(m as u64), table), f),
+    let n = chained(m, f)?;
+    Some(match m {
+        0 => count(&mut Splitting(Words, table), f, n),
+        _ => count(&mut Splitting(Below(m as u64), table), f, n),
     })
 }
 
 fn nth(m: u32, f: &Polynomial, j: usize, area: &mut [u32], table: &[u64]) -> Option<[usize; 2]> {
     area[..WORDS].fill(0);
-    if !chained(m, f) {
-        return None;
-    }
+    let n = chained(m, f)?;
     let walked = match m {
-        0 => walk(&mut Splitting(Words, table), f, j, area),
-        _ => walk(&mut Splitting(Below(m as u64), table), f, j, area),
+        0 => walk(&mut Splitting(Words, table), f, n, j, area),
+        _ => walk(&mut Splitting(Below(m as u64), table), f, n, j, area),
     };
     match walked {
         Walked::Reached(numbers) => Some(numbers),
@@ -203,8 +221,8 @@ fn splits(m: u32, degrees: &[usize], table: &[u64]) {
         let f = power(n);
         let counting = || Counting(Splitting(Below(m as u64), table), 0);
         let (mut counted, mut walked) = (counting(), counting());
-        let number = count(&mut counted, &f);
-        walk(&mut walked, &f, number - 1, &mut [0; WORDS]);
+        let number = count(&mut counted, &f, n);
+        walk(&mut walked, &f, n, number - 1, &mut [0; WORDS]);
         let label = format!("x^{n}, chains: {number}");
         println!("{label:<52}{:>12}{:>12}", counted.1, walked.1);
     }

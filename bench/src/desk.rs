@@ -18,6 +18,14 @@ pub type Split = unsafe extern "C" fn(
     h: *mut Polynomial,
 ) -> Refused;
 
+/// `desk_quick`, of this library or of another one. The answer is 1 for a pair or 0, and the highest power that differs.
+pub type Quick = unsafe extern "C" fn(
+    m: u32,
+    f: *const Polynomial,
+    r: usize,
+    answer: *mut [usize; 2],
+) -> Refused;
+
 /// `desk_left_part` of another library.
 pub type LeftPart = unsafe extern "C" fn(
     m: u32,
@@ -40,6 +48,7 @@ extern "C" {
         g: *mut Polynomial,
         h: *mut Polynomial,
     ) -> Refused;
+    pub fn desk_quick(m: u32, f: *const Polynomial, r: usize, answer: *mut [usize; 2]) -> Refused;
     pub fn desk_change_polynomial(
         m: u32,
         f: *const Polynomial,

@@ -2,10 +2,10 @@
 //! all as programs that read a file and write another one.
 
 use crate::plain::{
-    accepted, binomials, degree, invert, modulus, split_at, Below, Modulus, Polynomial, Words,
-    TERMS,
+    accepted, binomials, check, degree, invert, modulus, split_by, Below, Modulus, Polynomial,
+    Words, TERMS,
 };
-use crate::timing::{head, Random};
+use crate::timing::{head, row, Random};
 use std::fs::{self, File};
 use std::io::{Read, Write};
 use std::path::Path;
@@ -15,36 +15,45 @@ use std::time::Instant;
 const BYTES: usize = 512;
 const RUNS: usize = 6;
 
-/// The refusal number of a whole record, or 0.
-fn check(m: u32, f: &Polynomial) -> u32 {
-    if m == 1 || 2147483647 < m {
-        1
-    } else if m != 0 && f.iter().any(|&c| c >= m) {
-        2
-    } else if degree(f) < 2 {
-        3
-    } else if f[degree(f)] != 1 {
-        4
-    } else {
-        0
-    }
-}
-
-/// The degrees of the chain's parts, left to right, and the tries.
-fn chain<M: Modulus>(m: M, f: &Polynomial, table: &[u64]) -> (Vec<usize>, usize) {
-    let n = degree(f);
+/// The degrees of the chain's parts, left to right, and the tries. There is none if n and the modulus share a factor.
+fn chain<M: Modulus>(m: M, f: &Polynomial, n: usize, table: &[u64]) -> Option<(Vec<usize>, usize)> {
+    let v = invert(n as u64, m.number())?;
     let mut tries = 0;
     for s in 2..=n / 2 {
         if n % s == 0 {
             tries += 1;
-            if let Some((g, _)) = split_at(f, n, n / s, s, table, m) {
-                let (mut parts, more) = chain(m, &g, table);
+            if let Some((g, _)) = split_by(f, n, s, v, table, m) {
+                let (mut parts, more) = chain(m, &g, n / s, table)?;
                 parts.push(s);
-                return (parts, tries + more);
+                return Some((parts, tries + more));
             }
         }
     }
-    (vec![n], tries)
+    Some((vec![n], tries))
+}
+
+fn accepted_line(
+    m: u32,
+    f: &Polynomial,
+    n: usize,
+    number: usize,
+    table: &[u64],
+    out: &mut Vec<u8>,
+) {
+    let chain = match m {
+        0 => chain(Words, f, n, table),
+        _ => chain(Below(m as u64), f, n, table),
+    };
+    let Some((parts, tries)) = chain else {
+        writeln!(out, "{number} 5").unwrap();
+        return;
+    };
+    let price: usize = parts.iter().map(|d| d - 1).sum();
+    write!(out, "{number} 0 {n} {} {tries} {price}", parts.len()).unwrap();
+    for d in parts {
+        write!(out, " {d}").unwrap();
+    }
+    out.push(b'\n');
 }
 
 fn line(record: &[u8], number: usize, table: &[u64], out: &mut Vec<u8>) {
@@ -58,31 +67,10 @@ fn line(record: &[u8], number: usize, table: &[u64], out: &mut Vec<u8>) {
     for (i, c) in f.iter_mut().enumerate() {
         *c = word(i + 1);
     }
-    let refused = check(m, &f);
-    if refused != 0 {
-        writeln!(out, "{number} {refused}").unwrap();
-        return;
+    match check(m, &f) {
+        Ok(n) => accepted_line(m, &f, n, number, table, out),
+        Err(refused) => writeln!(out, "{number} {refused}").unwrap(),
     }
-    let n = degree(&f);
-    if invert(n as u64, modulus(m)).is_none() {
-        writeln!(out, "{number} 5").unwrap();
-        return;
-    }
-    let (parts, tries) = match m {
-        0 => chain(Words, &f, table),
-        _ => chain(Below(m as u64), &f, table),
-    };
-    write!(
-        out,
-        "{number} 0 {n} {} {tries} {}",
-        parts.len(),
-        parts.iter().map(|d| d - 1).sum::<usize>()
-    )
-    .unwrap();
-    for d in parts {
-        write!(out, " {d}").unwrap();
-    }
-    out.push(b'\n');
 }
 
 /// The plain listing as a program: standard input to standard output.
@@ -247,11 +235,12 @@ fn written(program: &mut Command, file: &Path) -> Vec<u8> {
     program.output().unwrap().stdout
 }
 
-/// The least seconds of each program from the file to another one. The one that was second is the next to be first: else each
-/// may stay on a core of its own, and one of the cores may be the slower.
-fn by_turns(programs: &mut [Command; 2], file: &Path) -> [f64; 2] {
-    let mut best = [f64::MAX; 2];
-    for i in (0..RUNS).flat_map(|run| [run % 2, 1 - run % 2]) {
+/// The least seconds of each program from the file to another one. Each turn begins with the next of them: else each may stay on
+/// a core of its own, and one of the cores may be the slower.
+fn by_turns(programs: &mut [Command], file: &Path) -> Vec<f64> {
+    let sides = programs.len();
+    let mut best = vec![f64::MAX; sides];
+    for i in (0..RUNS).flat_map(|run| (0..sides).map(move |i| (run + i) % sides)) {
         let output = File::create(file.with_extension("written")).unwrap();
         let program = programs[i].stdin(File::open(file).unwrap()).stdout(output);
         let start = Instant::now();
@@ -262,36 +251,51 @@ fn by_turns(programs: &mut [Command; 2], file: &Path) -> [f64; 2] {
     best
 }
 
-/// Prints the records per second of two programs on each file and their ratio, the best of some passes over all files; where
-/// they must write the same, that is compared first. The ratios, with what is in the file.
+/// That all programs write the same for the file.
+fn compare(label: &str, programs: &mut [Command], file: &Path) {
+    let (first, others) = programs.split_first_mut().unwrap();
+    let listing = written(first, file);
+    assert!(!listing.is_empty());
+    for program in others {
+        assert!(
+            written(program, file) == listing,
+            "{label}: the listings of {first:?} and {program:?} differ"
+        );
+    }
+}
+
+/// Prints the records per second of the programs on each file and their ratios, the best of some passes over all files; where
+/// they must write the same, that is compared first. The records per second, with what is in the file.
 pub fn beside(
     passes: usize,
-    heads: [&str; 2],
-    mut programs: [Command; 2],
+    heads: &[&str],
+    programs: &mut [Command],
     same: bool,
-) -> Vec<(String, f64)> {
+) -> Vec<(String, Vec<f64>)> {
     let folder = Path::new("target/bench-records");
     fs::create_dir_all(folder).unwrap();
     let (file, files) = (folder.join("records"), files());
-    let mut best = vec![[0.0f64; 2]; files.len()];
+    let mut best = vec![vec![0.0f64; programs.len()]; files.len()];
     for _ in 0..passes {
-        for ((label, bytes, count), [a, b]) in files.iter().zip(&mut best) {
+        for ((label, bytes, count), best) in files.iter().zip(&mut best) {
             fs::write(&file, bytes).unwrap();
             if same {
-                let [a, b] = programs.each_mut().map(|program| written(program, &file));
-                assert!(!a.is_empty() && a == b, "{label}: the listings differ");
+                compare(label, programs, &file);
             }
-            let rates = by_turns(&mut programs, &file).map(|seconds| *count as f64 / seconds);
-            (*a, *b) = (a.max(rates[0]), b.max(rates[1]));
+            let seconds = by_turns(programs, &file);
+            for (best, seconds) in best.iter_mut().zip(seconds) {
+                *best = best.max(*count as f64 / seconds);
+            }
         }
     }
     println!();
     head("records per second", heads);
-    let row = |((label, _, _), [a, b]): (&(&str, _, _), [f64; 2])| {
-        println!("{label:<52}{a:>12.0}{b:>12.0}{:>8.2}", a / b);
-        (label.to_string(), a / b)
-    };
-    files.iter().zip(best).map(row).collect()
+    let labels = files.iter().map(|(label, _, _)| label.to_string());
+    let rows: Vec<_> = labels.zip(best).collect();
+    for (label, rates) in &rows {
+        row(label, rates, 0);
+    }
+    rows
 }
 
 pub fn run() {
@@ -299,7 +303,7 @@ pub fn run() {
     let list = || Command::new("target/bin/list");
     let mut plain = Command::new(std::env::current_exe().unwrap());
     plain.arg("--list");
-    beside(3, ["list", "plain Rust"], [list(), plain], true);
+    beside(3, &["list", "plain Rust"], &mut [list(), plain], true);
     let sheets = Command::new("target/bin/sheets");
-    beside(1, ["sheets", "list"], [sheets, list()], false);
+    beside(1, &["sheets", "list"], &mut [sheets, list()], false);
 }

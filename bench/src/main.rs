@@ -1,5 +1,5 @@
 //! Times the desk's code beside the same method in plain Rust, in one run, on the same inputs; or, by `--turns`, beside the
-//! desk's code before a change. Every answer is compared first: a faster wrong answer does not count.
+//! desk's code before changes. Every answer is compared first: a faster wrong answer does not count.
 
 // The loops are the desk's own, by index.
 #![allow(clippy::needless_range_loop, clippy::manual_is_multiple_of)]
@@ -10,7 +10,9 @@ mod compose;
 mod desk;
 mod listing;
 mod plain;
+mod quick;
 mod residue;
+mod root;
 mod split;
 mod text;
 mod timing;
@@ -22,17 +24,16 @@ fn main() {
     match words.iter().map(String::as_str).collect::<Vec<_>>()[..] {
         [] => beside_plain(),
         ["--list"] => listing::plain(),
-        ["--turns", library, list, old_library, old_list] => {
-            turns::run([library, old_library], [list, old_list])
-        }
-        _ => panic!("--turns LIBRARY LIST OLD-LIBRARY OLD-LIST, or nothing"),
+        ["--turns", ref sides @ ..] => turns::run(sides),
+        _ => panic!("--turns NAME LIBRARY LIST..., or nothing"),
     }
 }
 
 fn beside_plain() {
-    timing::head(timing::CALLS, ["desk", "plain Rust"]);
+    timing::head(timing::CALLS, &["desk", "plain Rust"]);
     residue::run();
     split::run();
+    quick::run();
     compose::run();
     change::run();
     chains::run();

@@ -1,4 +1,7 @@
-//! The desk's methods in plain Rust: the same loops and the same sums, with indices checked as Rust checks them.
+//! The desk's methods in plain Rust: the same loops and the same sums, with indices checked as Rust checks them. A sum is reduced
+//! by `%`, as anyone would write it.
+
+use crate::root::Root;
 
 pub const TERMS: usize = 127;
 pub type Polynomial = [u32; TERMS];
@@ -177,39 +180,6 @@ pub fn degree(f: &[u32]) -> usize {
     f.iter().rposition(|&c| c != 0).unwrap_or(0)
 }
 
-fn right_part<M: Modulus>(
-    f: &Polynomial,
-    n: usize,
-    r: usize,
-    s: usize,
-    u: u32,
-    table: &[u64],
-    m: M,
-) -> Polynomial {
-    let mut b = [0u32; 64];
-    for i in 0..=r {
-        b[i] = m.residue(table[r * (r + 1) / 2 + i]);
-    }
-    let mut t = [0u32; TERMS];
-    for k in 1..s {
-        let last = r.min(k);
-        let mut at = k;
-        for i in 0..last - 1 {
-            let x = m.inner_product(&t, &t, at, 1, k - i);
-            at += s;
-            t[at] = x;
-        }
-        let d = strided_product(&b, &t, 2, last + 1, s + k, s, m);
-        t[k] = multiply(m.subtract(f[n - k], d), u, m);
-    }
-    let mut h = [0u32; TERMS];
-    for k in 1..s {
-        h[s - k] = t[k];
-    }
-    h[s] = 1;
-    h
-}
-
 /// p becomes c + h·p, of a degree up to d: in place, from the top power down.
 pub fn step<M: Modulus>(p: &mut [u32], c: u32, h: &[u32], s: usize, d: usize, m: M) {
     for k in (1..=d).rev() {
@@ -318,37 +288,105 @@ fn left_part<M: Modulus>(
     expand(&mut a[..n + 1], h, r, s, m).then(|| constants(&a, r, s))
 }
 
-/// The pair at left degree r, right degree s; r must have an inverse.
-pub fn split_at<M: Modulus>(
+/// The forced pair of f at the left degree r and the right degree s, by the inverse u of r. Nothing is divided where the root of f
+/// already says no.
+fn forced<M: Modulus>(
     f: &Polynomial,
-    n: usize,
-    r: usize,
-    s: usize,
+    [n, r, s]: [usize; 3],
+    u: u32,
     table: &[u64],
     m: M,
 ) -> Option<(Polynomial, Polynomial)> {
-    let u = invert(r as u64, m.number())?;
-    let h = right_part(f, n, r, s, u, table, m);
+    let mut root = Root::EMPTY;
+    if !root.find(f, [n, r, s], u, table, m) {
+        return None;
+    }
+    let h = root.right_part(s);
     left_part(f, &h, n, r, s, m).map(|g| (g, h))
 }
 
-/// The checks 1 to 4 of one polynomial.
+/// The pair at the right degree s by the inverse v of n: that of r = n / s is s * v, so a round over all s wants one inverse.
+pub fn split_by<M: Modulus>(
+    f: &Polynomial,
+    n: usize,
+    s: usize,
+    v: u32,
+    table: &[u64],
+    m: M,
+) -> Option<(Polynomial, Polynomial)> {
+    let u = multiply(v, s as u32, m);
+    forced(f, [n, n / s, s], u, table, m)
+}
+
+/// The degree of a polynomial that the checks 1 to 4 accept, or the number of the refusal.
+pub fn check(m: u32, f: &Polynomial) -> Result<usize, u32> {
+    if m == 1 || 2147483647 < m {
+        return Err(1);
+    }
+    if m != 0 && f.iter().any(|&c| c >= m) {
+        return Err(2);
+    }
+    match degree(f) {
+        0..2 => Err(3),
+        n if f[n] != 1 => Err(4),
+        n => Ok(n),
+    }
+}
+
 pub fn accepted(m: u32, f: &Polynomial) -> bool {
-    let reduced = match m {
-        0 => true,
-        2..=2147483647 => f.iter().all(|&c| c < m),
-        _ => false,
-    };
-    reduced && degree(f) >= 2 && f[degree(f)] == 1
+    check(m, f).is_ok()
+}
+
+/// The degrees n, r and s of an accepted f and a left degree r that fits it.
+fn fitting(m: u32, f: &Polynomial, r: usize) -> Option<[usize; 3]> {
+    let n = check(m, f).ok()?;
+    (2 <= r && n % r == 0 && 2 <= n / r).then(|| [n, r, n / r])
 }
 
 pub fn split(m: u32, f: &Polynomial, r: usize, table: &[u64]) -> Option<(Polynomial, Polynomial)> {
-    let n = degree(f);
-    if !accepted(m, f) || r < 2 || n % r != 0 || n / r < 2 {
-        return None;
-    }
+    let degrees = fitting(m, f, r)?;
+    let u = invert(r as u64, modulus(m))?;
     match m {
-        0 => split_at(f, n, r, n / r, table, Words),
-        _ => split_at(f, n, r, n / r, table, Below(m as u64)),
+        0 => forced(f, degrees, u, table, Words),
+        _ => forced(f, degrees, u, table, Below(m as u64)),
     }
+}
+
+/// All digits of p in powers of h, constants or not: nothing ends it early.
+fn expand_whole<M: Modulus>(p: &mut [u32], h: &Polynomial, s: usize, m: M) {
+    let mut at = 0;
+    while s < p.len() - at {
+        divide(&mut p[at..], h, s, m);
+        at += s;
+    }
+}
+
+/// The highest power at which f and its composed forced pair differ, or 0. Where the root of f says no, it is that of the root's
+/// place; else that of the highest digit which is no constant: the digits above it are the left part's coefficients.
+fn difference<M: Modulus>(
+    f: &Polynomial,
+    [n, r, s]: [usize; 3],
+    u: u32,
+    table: &[u64],
+    m: M,
+) -> usize {
+    let mut root = Root::EMPTY;
+    if !root.find(f, [n, r, s], u, table, m) {
+        return n - s - 1;
+    }
+    let mut a = *f;
+    expand_whole(&mut a[..n + 1], &root.right_part(s), s, m);
+    let differs = |&p: &usize| p % s != 0 && a[p] != 0;
+    (0..=n).rev().find(differs).unwrap_or(0)
+}
+
+/// The quick answer: 1 for a pair or 0, and the highest power that differs. Nothing if it is refused.
+pub fn quick(m: u32, f: &Polynomial, r: usize, table: &[u64]) -> Option<[usize; 2]> {
+    let degrees = fitting(m, f, r)?;
+    let u = invert(r as u64, modulus(m))?;
+    let p = match m {
+        0 => difference(f, degrees, u, table, Words),
+        _ => difference(f, degrees, u, table, Below(m as u64)),
+    };
+    Some([usize::from(p == 0), p])
 }

@@ -1,4 +1,4 @@
-use crate::desk::{desk_compose, desk_split, Split};
+use crate::desk::{desk_compose, desk_split, Quick, Split};
 use crate::plain::{binomials, degree, modulus, split, Polynomial, TERMS};
 use crate::timing::{at, beside, Random};
 use std::hint::black_box;
@@ -28,6 +28,14 @@ impl Input {
             0 => sum(&g, &h),
             _ => 0,
         }
+    }
+
+    /// The quick answer of the desk, or of another library.
+    pub fn quick(&self, quick: Quick) -> [usize; 2] {
+        let mut answer = [7; 2];
+        let refused = unsafe { quick(self.m, black_box(&self.f), self.r, &mut answer) };
+        assert!(refused.number == 0 && refused.polynomial == 0 && refused.power == 0);
+        answer
     }
 }
 

@@ -67,14 +67,12 @@ fn reads(label: &str, calls: usize, m: u32, text: &str) {
 /// The same of a text that takes milliseconds, by fewer turns.
 fn reads_long(label: &str, turns: usize, m: u32, text: &str) {
     let text = compared(label, m, text);
-    let times = by_turns(
-        label,
-        turns,
-        1,
+    let sides: &mut [&mut dyn FnMut(usize) -> u64] = &mut [
         &mut |_| witness(desk_read(m, black_box(text.as_bytes()))),
         &mut |_| witness(read(m, black_box(text.as_bytes()))),
-    );
-    row(label, times.map(|t| t / 1e6));
+    ];
+    let times = by_turns(label, turns, 1, sides);
+    row(label, &[times[0] / 1e6, times[1] / 1e6], 1);
 }
 
 fn writes(label: &str, m: u32, f: &Polynomial) {
@@ -156,7 +154,7 @@ fn longest() {
     println!();
     head(
         "ms to read a text, the least of many",
-        ["desk", "plain Rust"],
+        &["desk", "plain Rust"],
     );
     for (sum, m, power, deep) in LONG {
         let label = format!("{sum}, ^{power} {deep} deep, m = {}", modulus(m));

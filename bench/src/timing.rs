@@ -6,9 +6,24 @@ const RUNS: usize = 600;
 /// What is in the tables of single calls.
 pub const CALLS: &str = "ns a call, the least of many short runs";
 
-/// The line above a table: what is in it, and whose times stand side by side.
-pub fn head(title: &str, sides: [&str; 2]) {
-    println!("{title:<52}{:>12}{:>12}{:>8}", sides[0], sides[1], "ratio");
+/// The line above a table: what is in it, and whose times stand side by side. A ratio is the first
+/// side over the one that it stands after.
+pub fn head(title: &str, sides: &[&str]) {
+    print!("{title:<52}{:>12}", sides[0]);
+    for side in &sides[1..] {
+        print!("{side:>12}{:>8}", "ratio");
+    }
+    println!();
+}
+
+/// The line of a table.
+pub fn row(label: &str, values: &[f64], decimals: usize) {
+    let first = values[0];
+    print!("{label:<52}{first:>12.decimals$}");
+    for value in &values[1..] {
+        print!("{value:>12.decimals$}{:>8.2}", first / value);
+    }
+    println!();
 }
 
 /// Nanoseconds a call in one short run.
@@ -22,25 +37,28 @@ fn run(calls: usize, f: &mut dyn FnMut(usize) -> u64) -> f64 {
     start.elapsed().as_nanos() as f64 / calls as f64
 }
 
-/// Compares the answers of both on all inputs, then takes the times of both.
+/// Compares the answers of all sides on all inputs, then takes their times.
 ///
-/// The least of many short runs, the two by turns, so that other work on the machine counts little and for both alike.
+/// The least of many short runs, the sides by turns, so that other work on the machine counts little and for all alike.
 pub fn by_turns(
     label: &str,
     runs: usize,
     calls: usize,
-    first: &mut dyn FnMut(usize) -> u64,
-    second: &mut dyn FnMut(usize) -> u64,
-) -> [f64; 2] {
+    sides: &mut [&mut dyn FnMut(usize) -> u64],
+) -> Vec<f64> {
     for i in 0..calls {
-        assert_eq!(first(i), second(i), "{label}: input {i}");
+        let answer = sides[0](i);
+        for side in &mut sides[1..] {
+            assert_eq!(answer, side(i), "{label}: input {i}");
+        }
     }
-    let (mut a, mut b) = (f64::MAX, f64::MAX);
+    let mut least = vec![f64::MAX; sides.len()];
     for _ in 0..runs {
-        a = a.min(run(calls, first));
-        b = b.min(run(calls, second));
+        for (least, side) in least.iter_mut().zip(&mut *sides) {
+            *least = least.min(run(calls, side));
+        }
     }
-    [a, b]
+    least
 }
 
 /// Prints both times and their ratio.
@@ -50,13 +68,7 @@ pub fn beside(
     desk: &mut dyn FnMut(usize) -> u64,
     plain: &mut dyn FnMut(usize) -> u64,
 ) {
-    let [a, b] = by_turns(label, RUNS, calls, desk, plain);
-    row(label, [a, b]);
-}
-
-/// The line of a table.
-pub fn row(label: &str, [a, b]: [f64; 2]) {
-    println!("{label:<52}{a:>12.1}{b:>12.1}{:>8.2}", a / b);
+    row(label, &by_turns(label, RUNS, calls, &mut [desk, plain]), 1);
 }
 
 /// How a label ends: the rows at 2^31 - 1 do not name their modulus.
