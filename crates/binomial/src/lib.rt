@@ -1,10 +1,10 @@
 // The binomials C(j, i), rows 0 to ROWS - 1, not reduced: row j begins at j * (j + 1) / 2.
 //
-// A constant array is written out anew wherever it is indexed, so an operation fetches the table once and lends it down.
+// A constant array is written out anew wherever it is named, so who wants many rows fetches the table once and lends it down, and who
+// wants one row works that out by Pascal's rule.
 ghost use mathlib.Core.Path.{_≡_};
-ghost use Prim.Native.Nat.{_≤_, _<_};
-ghost use Rattle.algebra.specs.Number.{choose};
-ghost use Rattle.binomial.specs.Triangle.{rows, triangle};
+ghost use Prim.Native.Nat.{_+_, _*_, _/_, _<_};
+ghost use Rattle.binomial.specs.Triangle.{rows, triangle, HasRow};
 
 // No left degree reaches it.
 pub const ROWS: usize = 64;
@@ -2101,10 +2101,35 @@ pub fn table() -> [u64; ENTRIES]
     BINOMIALS
 }
 
-// C(j, i), from the table.
-pub fn entry(table: &[u64; ENTRIES], j: usize, i: usize) -> u64
-    requires { ⌜ (i ≤ j) × (j < rows) × (now table ≡ triangle rows) ⌝ }
-    ensures { λ r. ⌜ r ≡ choose j i ⌝ }
+// Where row j begins in the table.
+pub fn start(j: usize) -> usize
+    requires { ⌜ j < rows ⌝ }
+    ensures { λ r. ⌜ r ≡ j * (j + 1) / 2 ⌝ }
 {
-    table[j * (j + 1) / 2 + i]
+    j * (j + 1) / 2
+}
+
+// Row j becomes row j + 1, as far as place top: from the right, each number gets its left neighbour added.
+fn next(b: &mut [u64], j: usize, top: usize)
+    requires { ⌜ HasRow j top (now b) × (j + 1 < rows) × (top < rows) ⌝ }
+    ensures { λ _. ⌜ HasRow (j + 1) top (now (b .exit)) ⌝ }
+{
+    let mut i = top;
+    while 0 < i {
+        b[i] = b[i] + b[i - 1];
+        i -= 1;
+    }
+}
+
+// Row r as far as place top, by Pascal's rule.
+pub fn row(r: usize, top: usize) -> [u64; ROWS]
+    requires { ⌜ (r < rows) × (top < rows) ⌝ }
+    ensures { λ b. ⌜ HasRow r top b ⌝ }
+{
+    let mut b = [0; ROWS];
+    b[0] = 1;
+    for j in 0..r {
+        next(&mut b, j, top);
+    }
+    b
 }

@@ -136,8 +136,8 @@ searched-splits {m} {s = s} {f = f} a w = record {
 
 -- at a right degree
 module _ {m n s : ℕ} {f table : List ℕ} (a : ChainAsked m n f table) (two : 2 ≤ s) (e : n % s ≡ 0) (l : s ≤ n / 2) where
-  pub asked-at : SplitAsked m n (n / s) s f table
-  asked-at = record { modulus = a .modulus; degrees = half-degrees two e l (a .whole .within); whole = a .whole; binomials = a .binomials }
+  pub asked-at : SplitAsked m n (n / s) s f
+  asked-at = record { modulus = a .modulus; degrees = half-degrees two e l (a .whole .within); whole = a .whole }
 
   pub coprime-at : Coprime (n / s) m
   coprime-at = left-coprime s (a .modulus .above-one) (a .coprime) (asked-at .degrees .product)

@@ -35,7 +35,6 @@ use Rattle.polynomial.specs.declared.Answer.{Answer}
 use Rattle.polynomial.specs.declared.Parts.{Parts}
 use Rattle.polynomial.proofs.Acceptance.{accepted-modulus, accepted-one, accepted-as, one-accepted, accepted-two, two-accepted, accepted-above, degree-fits, pair-accepted}
 use Rattle.composition.specs.Composition.{composition}
-use Rattle.binomial.specs.Triangle.{rows, triangle}
 use Rattle.pair.specs.Pairing.{compose, check-left, LeftPartOf, check-split, Splits, SplitAsked}
 use Rattle.pair.specs.Pairing as of
 use Rattle.pair.proofs.Fitting.{fits-degrees, degrees-fit}
@@ -98,11 +97,11 @@ module _ {m : ℕ} {f : List ℕ} {r : ℕ} (lf : length f ≡ terms) where
       (a, fits-degrees _ _ (not-false _ (refuse-answered _ _ _ six)) (degree-fits a) .1)
 
   -- and what the search is given then
-  pub split-given : {n : ℕ} {o : Outcome} {t : List ℕ} → o ≡ check-split m f r → is-refused o ≡ false → n ≡ degree f → t ≡ triangle rows → SplitAsked m n r (n / r) f t
-  split-given e fine n-is b =
+  pub split-given : {n : ℕ} {o : Outcome} → o ≡ check-split m f r → is-refused o ≡ false → n ≡ degree f → SplitAsked m n r (n / r) f
+  split-given e fine n-is =
       let (a, d) = split-accepted (sym e ∙ answered fine) in
       let (w, held, two) = accepted-as n-is a in
-      record { modulus = w; degrees = rw n-is d; whole = held; binomials = b }
+      record { modulus = w; degrees = rw n-is d; whole = held }
 
   pub split-determined : {x y : Parts} → Splits m f r x → Splits m f r y → x ≡ y
   split-determined (of.refused e p) (of.refused k q) = p ∙ ap no-parts (one-refusal e k) ∙ sym q

@@ -5,6 +5,7 @@
 --   forced-none      no left part for the forced right part: no pair at all
 --   forced-refused, forced-found     so the left part's answer for it answers the split
 --   inverse-left     s times an inverse of n is one of r
+--   below-rows                       degrees that fit are below the table's rows
 --   asked-root, asked-left           what the root and the left part are given
 --   root-none        no pair at all where the root says no
 --   root-apart, report-told          the quick question: a no of the root, and what the digits tell
@@ -17,7 +18,7 @@ use native.Mathlib.Omega.{arith}
 use lib.Dec.{eqb}
 use borrow.Author.Tests.{ne-eqb}
 use Rattle.algebra.specs.Number.{Coprime, Modulus}
-use Rattle.algebra.specs.Polynomial.{terms, Monic, Held}
+use Rattle.algebra.specs.Polynomial.{limit, terms, Monic, Held}
 use Rattle.algebra.specs.Pair.{NormalPair, NoPair, Report}
 use Rattle.algebra.proofs.Polynomials.{_⨾_, same-refl, after-same}
 use Rattle.algebra.proofs.Factors.{coprime-invertible}
@@ -35,7 +36,9 @@ use Rattle.left.specs.Left.{LeftPart, NoLeft, LeftAsked, LeftAnswer}
 use Rattle.left.specs.Report.{LeftReport}
 use Rattle.left.specs.Report as digits
 use Rattle.left.specs.Left as left
+use Rattle.binomial.specs.Triangle.{rows}
 use Rattle.right.specs.Right.{RightAsked, RightPart, Root}
+use Rattle.right.proofs.Columns.{left-twice, right-twice}
 use Rattle.pair.specs.Pairing.{SplitAsked, Opened, SplitAnswer}
 use Rattle.pair.specs.Pairing as of
 use Rattle.pair.specs.Asking.{QuickAnswer}
@@ -53,6 +56,11 @@ forced-pair right left = record {
 pub fits-below : {n r s : ℕ} → Degrees n r s → (r < terms) × (s < terms)
 unfolding terms
 fits-below {n} {r} {s} d = (omega (arith, d .product, N.mul-le-mul-left r (d .two-right)), omega (arith, d .product, N.mul-le-mul-right s (d .two-left)))
+
+-- and has a row in the table
+pub below-rows : {n r s : ℕ} → Degrees n r s → (r < rows) × (s < rows)
+unfolding rows limit
+below-rows d = (omega (arith, left-twice d, d .within), omega (arith, right-twice d, d .within))
 
 forced-none : {m n r s : ℕ} {f h : List ℕ} → 1 < m → Degrees n r s → Coprime r m → RightPart m f r s h → NoLeft m f r h → NoPair m f r s
 forced-none {m} {n} {r} {s} {f} {h} two d c right none = no-normal-pair pos rp sp (fits-below d .0) (fits-below d .1) .0 go
@@ -88,7 +96,7 @@ inverse-left {m} {n} r s {u} v l e w q =
     let f : v * s * r ≡ r * s * v = omega arith in
     ap (λ (x : ℕ). x * r % m) q ∙ mod-mul-mod (v * s) r m ∙ ap (λ (x : ℕ). x % m) f ∙ ap (λ (x : ℕ). x * v % m) e ∙ w ∙ sym (N.mod-eq-of-lt l)
 
-module _ {m n r s : ℕ} {f table : List ℕ} (asked : SplitAsked m n r s f table) where
+module _ {m n r s : ℕ} {f : List ℕ} (asked : SplitAsked m n r s f) where
   pub asked-root : {u : ℕ} → u * r % m ≡ 1 % m → RightAsked m n r s u f
   asked-root w = record { modulus = asked .modulus; degrees = asked .degrees; reduced = asked .whole .reduced; inverse = w }
 

@@ -7,7 +7,7 @@
 --   LeftPartOf m f h x       x answers: the left part of f for the given h
 --   check-split m f r        1, 2, 3, 4; 6
 --   Splits m f r x           x answers: f split at the left degree r
---   SplitAsked m n r s f t   what a split at r and s is given: f of degree n = r·s, and the binomials
+--   SplitAsked m n r s f     what a split at r and s is given: f of degree n = r·s
 --   Opened m n r s f t       what is left to do where the root in t leaves a pair open
 --   SplitAnswer m f r s x    what it answers: the pair, that there is none, or that r and m share a factor
 use mathlib.Core.Path.{_≡_}
@@ -30,7 +30,6 @@ use Rattle.polynomial.specs.Answers.{nothing, no-parts}
 use Rattle.polynomial.specs.declared.Answer.{Answer}
 use Rattle.polynomial.specs.declared.Parts.{Parts}
 use Rattle.polynomial.specs.Degrees.{Degrees}
-use Rattle.binomial.specs.Triangle.{rows, triangle}
 use Rattle.composition.specs.Composition.{composition}
 use Rattle.left.specs.Left.{LeftPart, NoLeft}
 use Rattle.right.specs.Right.{RightPart}
@@ -74,11 +73,10 @@ pub data Splits (m : ℕ) (f : List ℕ) (r : ℕ) (x : Parts) : Type 0 where
       → x ≡ record { outcome = Answered; left = g; right = h } → Splits m f r x
 
 -- what a split is given once its checks are passed
-pub record SplitAsked (m n r s : ℕ) (f table : List ℕ) : Type 0 where
+pub record SplitAsked (m n r s : ℕ) (f : List ℕ) : Type 0 where
   pub modulus : Modulus m
   pub degrees : Degrees n r s
   pub whole : Held m n f
-  pub binomials : table ≡ triangle rows
 
 -- r has an inverse, and the right part can be read off the rows in t
 pub record Opened (m n r s : ℕ) (f t : List ℕ) : Type 0 where

@@ -1,14 +1,16 @@
 // The operations on pairs: compose, left part, split, and the quick question whether there is a pair.
 ghost use mathlib.Core.Path.{_≡_};
-ghost use Prim.Native.Nat.{_*_, _%_, _<_};
+ghost use Prim.Native.Nat.{min, _+_, _*_, _%_, _<_};
 ghost use Rattle.polynomial.specs.Moduli.{modulus};
 ghost use Rattle.polynomial.specs.Checks.{Measured};
+ghost use Rattle.binomial.specs.Triangle.{rows, triangle, HasRow};
 ghost use Rattle.residue.specs.Ready.{Ready};
 ghost use Rattle.right.specs.Rows.{Space};
 ghost use Rattle.right.specs.Right.{Root};
 ghost use Rattle.pair.specs.Pairing.{fits as fits-of, compose as compose-of, LeftPartOf, check-split, Splits, SplitAsked, Opened, SplitAnswer};
 ghost use Rattle.pair.specs.Asking.{unasked as unasked-of, QuickOf, QuickAnswer};
 use binomial::ENTRIES;
+use binomial::ROWS;
 use polynomial::Answer;
 use polynomial::Coefficients;
 use polynomial::Parts;
@@ -79,11 +81,14 @@ pub fn is_open(
     table: &[u64; ENTRIES],
     m: Divisor,
 ) -> bool
-    requires { ⌜ SplitAsked (m .number) n r s (now f) (now table) × (n * v % m .number ≡ 1) × Space (m .number) (now t) × Ready m ⌝ }
+    requires { ⌜ SplitAsked (m .number) n r s (now f) × (now table ≡ triangle rows) × (n * v % m .number ≡ 1) × Space (m .number) (now t) × Ready m ⌝ }
     ensures { λ b. ⌜ Root (m .number) (now (f .entry)) r s (now (t .exit)) b ⌝ }
 {
     let u = residue::multiply(v, s as u32, m);
-    right::root(t, f, n, r, s, u, table, m)
+    let at = binomial::start(r);
+    let end = at + r + 1;
+    let rows = &table[..];
+    right::root(t, f, n, r, s, u, &rows[at..end], m)
 }
 
 // The split where the root in t leaves it open: its right part is there, and its left part is looked for.
@@ -105,7 +110,22 @@ pub fn split_open(f: Coefficients, t: &[u32], n: usize, r: usize, s: usize, m: D
     }
 }
 
-// The split at the left degree r and the right degree s, with the table of binomials lent.
+// The split at the left degree r and the right degree s, with row r of the binomials lent.
+fn split_by(f: Coefficients, n: usize, r: usize, s: usize, row: &[u64], m: Divisor) -> Parts
+    requires { ⌜ SplitAsked (m .number) n r s f × HasRow r (min r (s + 1)) (now row) × Ready m ⌝ }
+    ensures { λ x. ⌜ SplitAnswer (m .number) f r s x ⌝ }
+{
+    let Inverse::Of(u) = residue::invert(r as u64, m.number) else {
+        return polynomial::no_parts(refusal::refused(Concerns::Neither, Reason::Factor));
+    };
+    let mut t = [0; right::WORDS];
+    if !right::root(&mut t, &f, n, r, s, u, row, m) {
+        return polynomial::no_parts(refusal::refused(Concerns::Neither, Reason::NoPair));
+    }
+    split_open(f, &t, n, r, s, m)
+}
+
+// The same with the table of binomials lent.
 pub fn split_at(
     f: Coefficients,
     n: usize,
@@ -114,17 +134,21 @@ pub fn split_at(
     table: &[u64; ENTRIES],
     m: Divisor,
 ) -> Parts
-    requires { ⌜ SplitAsked (m .number) n r s f (now table) × Ready m ⌝ }
+    requires { ⌜ SplitAsked (m .number) n r s f × (now table ≡ triangle rows) × Ready m ⌝ }
     ensures { λ x. ⌜ SplitAnswer (m .number) f r s x ⌝ }
 {
-    let Inverse::Of(u) = residue::invert(r as u64, m.number) else {
-        return polynomial::no_parts(refusal::refused(Concerns::Neither, Reason::Factor));
-    };
-    let mut t = [0; right::WORDS];
-    if !right::root(&mut t, &f, n, r, s, u, table, m) {
-        return polynomial::no_parts(refusal::refused(Concerns::Neither, Reason::NoPair));
-    }
-    split_open(f, &t, n, r, s, m)
+    let at = binomial::start(r);
+    let end = at + r + 1;
+    let rows = &table[..];
+    split_by(f, n, r, s, &rows[at..end], m)
+}
+
+// Row r of the binomials, as far as the root at r and s wants it: one split is no reason to write out the table.
+fn row_for(r: usize, s: usize) -> [u64; ROWS]
+    requires { ⌜ (r < rows) × (s < rows) ⌝ }
+    ensures { λ b. ⌜ HasRow r (min r (s + 1)) b ⌝ }
+{
+    binomial::row(r, polynomial::smaller(r, s + 1))
 }
 
 // 1, 2, 3, 4; 6: what a split at r refuses before it looks for a pair. n is the degree of f.
@@ -153,8 +177,9 @@ pub fn split(m: u32, f: Coefficients, r: usize) -> Parts
         return polynomial::no_parts(o);
     }
     let d = residue::made_ready(m);
-    let table = binomial::table();
-    split_at(f, n, r, n / r, &table, d)
+    let s = n / r;
+    let row = row_for(r, s);
+    split_by(f, n, r, s, &row, d)
 }
 
 // What the quick question answers: whether f splits, and if not, the highest power at which the forced pair, composed, and f differ.
@@ -176,20 +201,12 @@ fn unasked(outcome: Outcome) -> Verdict
 }
 
 // The quick question by the inverse u of r: the root says most nos, and all digits the others.
-fn report(
-    f: Coefficients,
-    n: usize,
-    r: usize,
-    s: usize,
-    u: u32,
-    table: &[u64; ENTRIES],
-    m: Divisor,
-) -> Verdict
-    requires { ⌜ SplitAsked (m .number) n r s f (now table) × (u < m .number) × (r * u % m .number ≡ 1) × Ready m ⌝ }
+fn report(f: Coefficients, n: usize, r: usize, s: usize, u: u32, row: &[u64], m: Divisor) -> Verdict
+    requires { ⌜ SplitAsked (m .number) n r s f × HasRow r (min r (s + 1)) (now row) × (r * u % m .number ≡ 1) × Ready m ⌝ }
     ensures { λ x. ⌜ QuickAnswer (m .number) f r s x ⌝ }
 {
     let mut t = [0; right::WORDS];
-    if !right::root(&mut t, &f, n, r, s, u, table, m) {
+    if !right::root(&mut t, &f, n, r, s, u, row, m) {
         return Verdict {
             outcome: Outcome::Answered,
             splits: false,
@@ -216,9 +233,10 @@ pub fn quick(m: u32, f: Coefficients, r: usize) -> Verdict
         return unasked(o);
     }
     let d = residue::made_ready(m);
-    let table = binomial::table();
+    let s = n / r;
+    let row = row_for(r, s);
     match residue::invert(r as u64, m) {
-        Inverse::Of(u) => report(f, n, r, n / r, u, &table, d),
+        Inverse::Of(u) => report(f, n, r, s, u, &row, d),
         Inverse::Shared(_) => unasked(refusal::refused(Concerns::Neither, Reason::Factor)),
     }
 }

@@ -7,15 +7,14 @@
 // The same columns go on for two places past h: they are the r-th root of f from the top. If f = g(h), the root is h + g_(r-1)/r
 // as far as place 2s - 1, so its place s + 1 is 0; where it is not, the forced pair and f differ at x^(n-s-1).
 ghost use mathlib.Core.Path.{_≡_};
-ghost use Prim.Native.Nat.{_+_, _*_, _%_, _≤_, _<_};
+ghost use Prim.Native.Nat.{min, _+_, _*_, _%_, _≤_, _<_};
 ghost use lib.ListN.{length};
 ghost use Rattle.algebra.specs.Polynomial.{limit, Reduced};
 ghost use Rattle.residue.specs.Ready.{Ready};
 ghost use Rattle.polynomial.specs.Degrees.{Degrees};
-ghost use Rattle.binomial.specs.Triangle.{rows, triangle};
+ghost use Rattle.binomial.specs.Triangle.{rows, HasRow};
 ghost use Rattle.right.specs.Right.{RightAsked, Root};
 ghost use Rattle.right.specs.Rows.{words, Space, Scaled, ColumnRoom, Column, Rows, Upside};
-use binomial::ENTRIES;
 use binomial::ROWS;
 use polynomial::Coefficients;
 use polynomial::TERMS;
@@ -25,14 +24,14 @@ use residue::Divisor;
 pub const WORDS: usize = 2 * TERMS;
 
 // Row r of the binomials as far as the place top, divided by -r modulo m, with the inverse u of r in place 1.
-fn binomials(table: &[u64; ENTRIES], r: usize, top: usize, u: u32, m: Divisor) -> [u32; ROWS]
-    requires { ⌜ Ready m × (r < rows) × (top ≤ r) × (2 ≤ top) × (u * r % m .number ≡ 1 % m .number) × (now table ≡ triangle rows) ⌝ }
+fn binomials(row: &[u64], r: usize, top: usize, u: u32, m: Divisor) -> [u32; ROWS]
+    requires { ⌜ Ready m × (2 ≤ top) × (top < rows) × (u * r % m .number ≡ 1 % m .number) × HasRow r top (now row) ⌝ }
     ensures { λ b. ⌜ Scaled (m .number) r u top b ⌝ }
 {
     let mut b = [0; ROWS];
     b[1] = u;
     for i in 2..top + 1 {
-        let x = residue::remainder(binomial::entry(table, r, i), m);
+        let x = residue::remainder(row[i], m);
         b[i] = residue::subtract(0, residue::multiply(x, u, m), m.number);
     }
     b
@@ -78,8 +77,8 @@ pub fn upside(t: &[u32], s: usize) -> Coefficients
     h
 }
 
-// The r-th root of f, of degree n = r * s, in the rows of t; u is the inverse of r. "No" if its place s + 1 shows that there is no
-// pair. t may hold the rows of another root.
+// The r-th root of f, of degree n = r * s, in the rows of t; u is the inverse of r, and row has row r of the binomials. "No" if its
+// place s + 1 shows that there is no pair. t may hold the rows of another root.
 pub fn root(
     t: &mut [u32],
     f: &[u32],
@@ -87,13 +86,13 @@ pub fn root(
     r: usize,
     s: usize,
     u: u32,
-    table: &[u64; ENTRIES],
+    row: &[u64],
     m: Divisor,
 ) -> bool
-    requires { ⌜ RightAsked (m .number) n r s u (now f) × (now table ≡ triangle rows) × Space (m .number) (now t) × Ready m ⌝ }
+    requires { ⌜ RightAsked (m .number) n r s u (now f) × HasRow r (min r (s + 1)) (now row) × Space (m .number) (now t) × Ready m ⌝ }
     ensures { λ b. ⌜ Root (m .number) (now (f .entry)) r s (now (t .exit)) b ⌝ }
 {
-    let b = binomials(table, r, polynomial::smaller(r, s + 1), u, m);
+    let b = binomials(row, r, polynomial::smaller(r, s + 1), u, m);
     for k in 1..s + 2 {
         next(t, f, &b, n, r, s, k, m);
     }

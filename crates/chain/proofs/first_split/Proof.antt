@@ -37,7 +37,7 @@ unfolding terms limit
 slice-aggregate-is-open-2 c = sym (c .before .before .before .before .before .pre .0 .whole .reduced .long)
 
 is-open-requires : tie.Need-is-open-requires Inv-loop μ-loop
-is-open-requires c κs = (asked-at (c .before .before .before .before .before .pre .0) (c .before .before .before .before .loop .inv .0 .two) (c .before .before .if1 .left) (omega arith), c .before .before .before .before .before .pre .1, c .before .before .before .before .loop .inv .2, c .before .before .before .before .before .pre .2)
+is-open-requires c κs = (asked-at (c .before .before .before .before .before .pre .0) (c .before .before .before .before .loop .inv .0 .two) (c .before .before .if1 .left) (omega arith), c .before .before .before .before .before .pre .0 .binomials, c .before .before .before .before .before .pre .1, c .before .before .before .before .loop .inv .2, c .before .before .before .before .before .pre .2)
 
 -- the quick question says no
 loop-again-2 : tie.Need-loop-again-2 Inv-loop μ-loop

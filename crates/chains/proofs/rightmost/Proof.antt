@@ -11,7 +11,7 @@ use Rattle.chains.proofs.rightmost.Tie as tie
 split-at-requires : tie.Need-split-at-requires
 split-at-requires c κs =
     let (a, d, y) = c .pre in
-    (record { modulus = a .modulus; degrees = record { product = omega (arith, d .product); within = d .within; two-left = omega (arith, d .two-left, d .two-right); two-right = omega (arith, d .two-left, d .two-right) }; whole = a .whole; binomials = a .binomials }, y)
+    (record { modulus = a .modulus; degrees = record { product = omega (arith, d .product); within = d .within; two-left = omega (arith, d .two-left, d .two-right); two-right = omega (arith, d .two-left, d .two-right) }; whole = a .whole }, a .binomials, y)
 
 -- f does not split at s
 returns : tie.Need-returns

@@ -5,6 +5,7 @@ use Rattle.algebra.specs.Polynomial.{limit, terms}
 use Rattle.residue.proofs.Inverses.{inverse-coprime, shared-not-coprime}
 use Rattle.pair.proofs.Answering.{quick-refused, quick-shared, quick-told}
 use Rattle.pair.proofs.Determined.{split-modulus, split-given}
+use Rattle.pair.proofs.Forcing.{below-rows}
 use Rattle.pair.proofs.quick.Statement.{statement}
 use Rattle.pair.proofs.quick.Tie as tie
 
@@ -20,21 +21,21 @@ made-ready-requires : tie.Need-made-ready-requires
 unfolding terms limit
 made-ready-requires c κs = split-modulus _ _ (omega arith) (c .before .before .check-split .ensures) (sym (c .before .refuses .ensures) ∙ c .if1 .left)
 
-invert-requires : tie.Need-invert-requires
-unfolding terms limit
-invert-requires c κs = split-given (omega arith) (c .before .before .before .before .check-split .ensures) (sym (c .before .before .before .refuses .ensures) ∙ c .before .before .if1 .left) (c .before .before .before .before .before .before .degree .ensures) (c .table .ensures) .modulus
-
 -- a left degree that fits is not 0
-div-report : tie.Need-div-report
+div-s : tie.Need-div-s
 unfolding terms limit
-div-report c = let p = split-given (omega arith) (c .before .before .before .before .before .before .before .before .check-split .ensures) (sym (c .before .before .before .before .before .before .before .refuses .ensures) ∙ c .before .before .before .before .before .before .if1 .left) (c .before .before .before .before .before .before .before .before .before .before .degree .ensures) (c .before .before .before .before .table .ensures) in omega (arith, p .degrees .two-left)
+div-s c = let p = split-given (omega arith) (c .before .before .before .check-split .ensures) (sym (c .before .before .refuses .ensures) ∙ c .before .if1 .left) (c .before .before .before .before .before .degree .ensures) in omega (arith, p .degrees .two-left)
+
+row-for-requires : tie.Need-row-for-requires
+unfolding terms limit
+row-for-requires c κs = below-rows (split-given (omega arith) (c .before .before .before .check-split .ensures) (sym (c .before .before .refuses .ensures) ∙ c .before .if1 .left) (c .before .before .before .before .before .degree .ensures) .degrees)
 
 report-requires : tie.Need-report-requires
 unfolding terms limit
 report-requires c κs =
     let i = rw (c .before .before .u .given .1) at (c .before .before .before .before .invert .ensures) in
     let d = c .before .before .before .before .before .before .made-ready .ensures in
-    (rw (d .0) (split-given (omega arith) (c .before .before .before .before .before .before .before .before .before .check-split .ensures) (sym (c .before .before .before .before .before .before .before .before .refuses .ensures) ∙ c .before .before .before .before .before .before .before .if1 .left) (c .before .before .before .before .before .before .before .before .before .before .before .degree .ensures) (c .before .before .before .before .before .table .ensures)), rw (d .0) (i .0), rw (d .0) (i .1), d .1)
+    (rw (d .0) (split-given (omega arith) (c .before .before .before .before .before .before .before .before .before .check-split .ensures) (sym (c .before .before .before .before .before .before .before .before .refuses .ensures) ∙ c .before .before .before .before .before .before .before .if1 .left) (c .before .before .before .before .before .before .before .before .before .before .before .degree .ensures)), c .before .before .before .before .before .row-for .ensures, rw (d .0) (i .1), d .1)
 
 returns-2 : tie.Need-returns-2
 returns-2 c =
@@ -60,10 +61,11 @@ quick-spec =
     (λ c κs. search needs)
     returns
     made-ready-requires
+    div-s
+    row-for-requires
     (λ c κs. search needs)
-    invert-requires
     (λ c. search needs)
-    div-report
+    (λ c. search needs)
     report-requires
     (λ c. search needs)
     (λ c κs. search needs)

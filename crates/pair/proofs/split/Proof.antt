@@ -4,6 +4,7 @@ use borrow.Author.Needs.{needs}
 use Rattle.algebra.specs.Polynomial.{limit, terms}
 use Rattle.pair.proofs.Answering.{split-refused, split-told}
 use Rattle.pair.proofs.Determined.{split-modulus, split-given}
+use Rattle.pair.proofs.Forcing.{below-rows}
 use Rattle.pair.proofs.split.Statement.{statement}
 use Rattle.pair.proofs.split.Tie as tie
 
@@ -20,18 +21,22 @@ unfolding terms limit
 made-ready-requires c κs = split-modulus _ _ (omega arith) (c .before .before .check-split .ensures) (sym (c .before .refuses .ensures) ∙ c .if1 .left)
 
 -- a left degree that fits is not 0
-div-split-at : tie.Need-div-split-at
+div-s : tie.Need-div-s
 unfolding terms limit
-div-split-at c = let p = split-given (omega arith) (c .before .before .before .before .check-split .ensures) (sym (c .before .before .before .refuses .ensures) ∙ c .before .before .if1 .left) (c .before .before .before .before .before .before .degree .ensures) (c .table .ensures) in omega (arith, p .degrees .two-left)
+div-s c = let p = split-given (omega arith) (c .before .before .before .check-split .ensures) (sym (c .before .before .refuses .ensures) ∙ c .before .if1 .left) (c .before .before .before .before .before .degree .ensures) in omega (arith, p .degrees .two-left)
 
-split-at-requires : tie.Need-split-at-requires
+row-for-requires : tie.Need-row-for-requires
 unfolding terms limit
-split-at-requires c κs =
+row-for-requires c κs = below-rows (split-given (omega arith) (c .before .before .before .check-split .ensures) (sym (c .before .before .refuses .ensures) ∙ c .before .if1 .left) (c .before .before .before .before .before .degree .ensures) .degrees)
+
+split-by-requires : tie.Need-split-by-requires
+unfolding terms limit
+split-by-requires c κs =
     let d = c .before .before .made-ready .ensures in
-    (rw (d .0) (split-given (omega arith) (c .before .before .before .before .before .check-split .ensures) (sym (c .before .before .before .before .refuses .ensures) ∙ c .before .before .before .if1 .left) (c .before .before .before .before .before .before .before .degree .ensures) (c .before .table .ensures)), d .1)
+    (rw (d .0) (split-given (omega arith) (c .before .before .before .before .before .check-split .ensures) (sym (c .before .before .before .before .refuses .ensures) ∙ c .before .before .before .if1 .left) (c .before .before .before .before .before .before .before .degree .ensures)), c .before .row-for .ensures, d .1)
 
 returns-2 : tie.Need-returns-2
-returns-2 c = rw (← c .before .before .before .before .before .before .before .before .before .before .modulus .ensures) (split-told _ _ _ (c .before .before .before .before .before .before .check-split .ensures) (c .before .before .before .before .before .before .before .before .degree .ensures) (sym (c .before .before .before .before .before .refuses .ensures) ∙ c .before .before .before .before .if1 .left) (rw (c .before .before .before .made-ready .ensures .0) at (c .split-at .ensures)))
+returns-2 c = rw (← c .before .before .before .before .before .before .before .before .before .before .modulus .ensures) (split-told _ _ _ (c .before .before .before .before .before .before .check-split .ensures) (c .before .before .before .before .before .before .before .before .degree .ensures) (sym (c .before .before .before .before .before .refuses .ensures) ∙ c .before .before .before .before .if1 .left) (rw (c .before .before .before .made-ready .ensures .0) at (c .split-by .ensures)))
 
 pub split-spec : {M : Type 1} → statement M
 split-spec =
@@ -46,7 +51,8 @@ split-spec =
     (λ c κs. search needs)
     returns
     made-ready-requires
-    (λ c κs. search needs)
-    div-split-at
-    split-at-requires
+    div-s
+    row-for-requires
+    (λ c. search needs)
+    split-by-requires
     returns-2)

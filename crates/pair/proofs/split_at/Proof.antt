@@ -1,60 +1,44 @@
-use mathlib.Core.Path.{sym, ap, _∙_}
-use Prim.Native.Nat.{ℕ, _%_}
-use native.Mathlib.Nat.{mul-comm, mod-eq-of-lt}
+use mathlib.Core.Path.{refl}
 use native.Mathlib.Omega.{arith}
 use borrow.Author.Needs.{needs}
-use borrow.Author.Tests.{not-true}
-use Rattle.algebra.specs.Polynomial.{limit, terms}
-use Rattle.residue.proofs.Inverses.{inverse-coprime, shared-not-coprime}
-use Rattle.polynomial.specs.Answers.{no-parts}
-use Rattle.right.specs.Rows.{words}
-use Rattle.right.proofs.Columns.{room-none}
-use Rattle.pair.specs.Pairing.{shared, none}
-use Rattle.pair.proofs.Forcing.{asked-root, root-none, root-open}
+use Rattle.binomial.specs.Triangle.{rows}
+use Rattle.binomial.proofs.Pascal.{table-end, table-row}
+use Rattle.pair.proofs.Forcing.{below-rows}
 use Rattle.pair.proofs.split_at.Statement.{statement}
 use Rattle.pair.proofs.split_at.Tie as tie
 
--- No. 5
-returns : tie.Need-returns
-returns c = shared (shared-not-coprime (rw (c .before .before .enum-told .given .1) at (c .before .before .before .before .invert .ensures))) (c .no-parts .ensures ∙ ap no-parts (c .before .refused .ensures))
+start-requires : tie.Need-start-requires
+start-requires c κs = below-rows (c .pre .0 .degrees) .0
 
-root-requires : tie.Need-root-requires
-unfolding words terms limit
-root-requires c κs =
-    let p = c .before .before .before .before .before .before .pre in
-    let a = c .before .before .before .before .before .before .args in
-    let i = rw (c .before .before .before .u .given .1) at (c .before .before .before .before .before .invert .ensures) in
-    let unit = ap (λ (x : ℕ). x % a .m .number) (mul-comm _ (a .r)) ∙ i .1 ∙ sym (mod-eq-of-lt (p .0 .modulus .above-one)) in
-    (asked-root (p .0) unit, p .0 .binomials, room-none (omega (arith, p .0 .modulus .above-one)), p .1)
+add-end : tie.Need-add-end
+unfolding rows
+add-end c = omega (arith, table-end (below-rows (c .before .pre .0 .degrees) .0) (c .start .ensures))
 
--- No. 7: the root says no
-returns-2 : tie.Need-returns-2
-returns-2 c =
-    let p = c .before .before .before .before .before .before .before .before .before .before .before .pre in
-    let i = inverse-coprime (rw (c .before .before .before .before .before .before .before .before .u .given .1) at (c .before .before .before .before .before .before .before .before .before .before .invert .ensures)) in
-    none i (root-none (p .0) i (c .before .before .before .before .root .ensures) (not-true _ (c .before .before .if1 .taken))) (c .no-parts2 .ensures ∙ ap no-parts (c .before .refused2 .ensures))
+add-end-2 : tie.Need-add-end-2
+unfolding rows
+add-end-2 c = omega (arith, table-end (below-rows (c .before .pre .0 .degrees) .0) (c .start .ensures))
 
-split-open-requires : tie.Need-split-open-requires
-split-open-requires c κs =
-    let p = c .before .before .before .before .before .before .before .before .before .before .pre in
-    (root-open (p .0) (inverse-coprime (rw (c .before .before .before .before .before .before .before .u .given .1) at (c .before .before .before .before .before .before .before .before .before .invert .ensures))) (c .before .before .before .root .ensures), p .1)
+mul-split-by : tie.Need-mul-split-by
+unfolding rows
+mul-split-by c = omega (arith, table-end (below-rows (c .before .before .pre .0 .degrees) .0) (c .before .start .ensures))
+
+part-split-by-end : tie.Need-part-split-by-end
+unfolding rows
+part-split-by-end c = omega (arith, table-end (below-rows (c .before .before .pre .0 .degrees) .0) (c .before .start .ensures))
+
+split-by-requires : tie.Need-split-by-requires
+split-by-requires c κs = let p = c .before .before .before .pre in (p .0, table-row (below-rows (p .0 .degrees) .0) (c .before .before .start .ensures) (omega arith) refl (p .1), p .2)
 
 pub split-at-spec : {M : Type 1} → statement M
 split-at-spec =
     tie.close
     (tie.spec
-    (λ c κs. search needs)
+    start-requires
+    add-end
+    add-end-2
+    mul-split-by
     (λ c. search needs)
     (λ c. search needs)
-    (λ c κs. search needs)
-    (λ c κs. search needs)
-    returns
-    (λ c. search needs)
-    (λ c. search needs)
-    root-requires
-    (λ c κs. search needs)
-    (λ c κs. search needs)
-    returns-2
-    (λ c. search needs)
-    split-open-requires
+    part-split-by-end
+    split-by-requires
     (λ c. search needs))
