@@ -1,8 +1,7 @@
 -- Left parts and what they compose to with one right part, compared from the top.
 --
---   level, equal         p - q is 0 exactly where p and q agree
 --   after-agree          left parts that agree above x^j: what they compose to agrees above x^(js)
---   left-agree           what they compose to agrees at the powers x^(js) above x^k: so do they, at these j
+--   tops                 monic polynomials of one degree agree from there on
 --   forced-agree         g(h) for the forced g is what f is, as far as any g′(h) is what f is, and on to the next power x^(js)
 --   forced-left-exists   there is a forced left part, for any monic h
 --   times-differs        two polynomials that differ first, from the top, at x^k: times h they do so at x^(k+s)
@@ -13,8 +12,6 @@ use mathlib.Core.List.{List}
 use Prim.Native.Nat.{ℕ, zero, suc, _+_, _*_, _-_, _%_, _≤_, _<_}
 use native.Mathlib.Nat as N
 use native.Mathlib.Omega.{arith}
-use native.Mathlib.Decide.{decLt}
-use lib.ListN.{length, List·getD-eq-default}
 use Rattle.algebra.specs.Polynomial.{coef, plus, scaled, times, after, Same, Monic}
 use Rattle.algebra.specs.Pair.{ForcedLeft, Differs}
 use Rattle.algebra.proofs.Ring as A
@@ -27,7 +24,7 @@ use Rattle.algebra.proofs.Degrees.{deg-mul-at, top-mul}
 use Rattle.algebra.proofs.Numbers.{add-same, mul-same, add-cancel}
 use Rattle.algebra.proofs.Coefficients.{coef-plus, coef-scaled, after-end, after-monic}
 use Rattle.algebra.proofs.Polynomials.{Q, _⨾_, same-refl, monic-series, residue-at, at-residue, plus-same, after-plus, after-scaled}
-use Rattle.algebra.proofs.ForcedPair.{minus, coef-minus, no-difference, all-round, after-minus}
+use Rattle.algebra.proofs.ForcedPair.{minus, after-minus, level, equal, left-agree}
 use Rattle.algebra.proofs.RightPart.{monomial, monomial-monic}
 
 module _ (R : A.Ring) where
@@ -37,46 +34,18 @@ module _ (R : A.Ring) where
   spread h p c q = simp A.ring
 
 module _ (m : ℕ) (pos : 0 < m) where
-  -- p - q where they agree
-  pub level : (p q : List ℕ) (i : ℕ) → coef p i % m ≡ coef q i % m → coef (minus m pos p q) i % m ≡ 0 % m
-  level p q i e = ap (λ (x : ℕ). x % m) (coef-minus m pos p q i) ∙ all-round m pos _ _ e
-
-  pub equal : (p q : List ℕ) (i : ℕ) → coef (minus m pos p q) i % m ≡ 0 % m → coef p i % m ≡ coef q i % m
-  equal p q i e = no-difference m pos _ _ (ap (λ (x : ℕ). x % m) (sym (coef-minus m pos p q i)) ∙ e)
-
   pub after-agree : (j : ℕ) {s : ℕ} (g g′ : List ℕ) {h : List ℕ} → 0 < s → Monic m s h → ((i : ℕ) → j < i → coef g i % m ≡ coef g′ i % m)
       → (i : ℕ) → j * s < i → coef (after g h) i % m ≡ coef (after g′ h) i % m
-  after-agree j g g′ {h} sp mh e i l = equal (after g h) (after g′ h) i (sym (after-minus m pos g g′ h .at i) ∙ after-end m pos (minus m pos g g′) sp mh (λ k b. level g g′ k (e k b)) .1 i l)
-
-  pub left-agree : (k : ℕ) {s : ℕ} (g g′ : List ℕ) {h : List ℕ} → 0 < s → Monic m s h
-      → ((j : ℕ) → k < j * s → coef (after g h) (j * s) % m ≡ coef (after g′ h) (j * s) % m) → (j : ℕ) → k < j * s → coef g j % m ≡ coef g′ j % m
-  left-agree k {s} g g′ {h} sp mh e j l = equal g g′ j (down (length w) (λ i b. ap (λ (x : ℕ). x % m) (List·getD-eq-default w 0 (N.le-of-lt b))) j l)
-    where
-      w : List ℕ
-      w = minus m pos g g′
-
-      -- from the top down, as long as x^(ns) is above x^k
-      down : (n : ℕ) → ((i : ℕ) → n < i → coef w i % m ≡ 0 % m) → (j : ℕ) → k < j * s → coef w j % m ≡ 0 % m
-      down zero z zero b = absurd (omega (arith, N.zero-mul s))
-      down zero z (suc j) b = z (suc j) (omega arith)
-      down (suc n) z j b = step (decLt k (suc n * s)) (λ y. down n y j b)
-        where
-          step : Dec (k < suc n * s) → (((i : ℕ) → n < i → coef w i % m ≡ 0 % m) → coef w j % m ≡ 0 % m) → coef w j % m ≡ 0 % m
-          step (yes c) rest = rest (λ i l. ⊎-elim (λ (q : suc n ≡ i). rw (← q) (sym (after-end m pos w sp mh z .0) ∙ after-minus m pos g g′ h .at (suc n * s) ∙ level (after g h) (after g′ h) (suc n * s) (e (suc n) c))) (z i) (N.eq-or-lt-of-le l))
-          step (no c) rest = z j (above (decLt (suc n) j))
-            where
-              above : Dec (suc n < j) → suc n < j
-              above (yes d) = d
-              above (no d) = absurd (omega (arith, N.mul-le-mul-right {m = j} {n = suc n} s (omega arith)))
+  after-agree j g g′ {h} sp mh e i l = equal m pos (after g h) (after g′ h) i (sym (after-minus m pos g g′ h .at i) ∙ after-end m pos (minus m pos g g′) sp mh (λ k b. level m pos g g′ k (e k b)) .1 i l)
 
   -- two monic polynomials of one degree, from there on
-  tops : {n : ℕ} {p q : List ℕ} → Monic m n p → Monic m n q → (i : ℕ) → n ≤ i → coef p i % m ≡ coef q i % m
+  pub tops : {n : ℕ} {p q : List ℕ} → Monic m n p → Monic m n q → (i : ℕ) → n ≤ i → coef p i % m ≡ coef q i % m
   tops mp mq i l = ⊎-elim (λ (e : _ ≡ i). rw (← e) (mp .top ∙ sym (mq .top))) (λ b. mp .above i b ∙ sym (mq .above i b)) (N.eq-or-lt-of-le l)
 
   pub forced-agree : {r s k : ℕ} (q : ℕ) {f g : List ℕ} (g′ : List ℕ) {h : List ℕ} → 0 < s → Monic m s h → k < suc q * s → ForcedLeft m r s f h g
       → ((i : ℕ) → k < i → coef f i % m ≡ coef (after g′ h) i % m) → (i : ℕ) → q * s < i → coef (after g h) i % m ≡ coef (after g′ h) i % m
   forced-agree {s = s} {k = k} q {g = g} g′ sp mh l F e =
-      after-agree q g g′ sp mh (λ j b. left-agree k g g′ sp mh (λ j c. F .forced j ∙ e (j * s) c) j (omega (arith, N.mul-le-mul-right {m = suc q} {n = j} s b)))
+      after-agree q g g′ sp mh (λ j b. left-agree m pos (suc k) g g′ sp mh (λ j c. F .forced j ∙ e (j * s) c) j (omega (arith, N.mul-le-mul-right {m = suc q} {n = j} s b)))
 
   pub forced-left-exists : {r s : ℕ} {f h : List ℕ} → 0 < s → Monic m s h → Monic m (r * s) f → (g : List ℕ) × ForcedLeft m r s f h g
   forced-left-exists {r} {s} {f} {h} sp mh mf = let (g, mg, e) = from r (omega arith) in (g, record { monic = mg; forced = λ i. e i (omega arith) })
@@ -127,9 +96,9 @@ module _ (m : ℕ) (pos : 0 < m) where
 
   pub times-differs : {s k : ℕ} {h : List ℕ} (p q : List ℕ) → Monic m s h → Differs m p q k → Differs m (times h p) (times h q) (s + k)
   times-differs {s} {k} {h} p q mh d = record {
-    above = λ i l. equal (times h p) (times h q) i (sym (times-minus h p q .at i) ∙ at-residue m pos (times h w) i 0 (at i ∙ deg-mul-at Z s (H .deg) low i l));
-    here = λ e. d .here (equal p q k (at-residue m pos w k 0 (sym (A.one-mul Z _) ∙ ap (λ (x : Res m pos). Residues.rmul m pos x (⟦ Z ⟧ w k)) (sym (H .top)) ∙ sym (top-mul Z s (H .deg) low) ∙ sym (at (s + k))
-        ∙ residue-at m pos (times h w) (s + k) 0 (times-minus h p q .at (s + k) ∙ level (times h p) (times h q) (s + k) e))));
+    above = λ i l. equal m pos (times h p) (times h q) i (sym (times-minus h p q .at i) ∙ at-residue m pos (times h w) i 0 (at i ∙ deg-mul-at Z s (H .deg) low i l));
+    here = λ e. d .here (equal m pos p q k (at-residue m pos w k 0 (sym (A.one-mul Z _) ∙ ap (λ (x : Res m pos). Residues.rmul m pos x (⟦ Z ⟧ w k)) (sym (H .top)) ∙ sym (top-mul Z s (H .deg) low) ∙ sym (at (s + k))
+        ∙ residue-at m pos (times h w) (s + k) 0 (times-minus h p q .at (s + k) ∙ level m pos (times h p) (times h q) (s + k) e))));
   }
     where
       Z : A.Ring
@@ -142,7 +111,7 @@ module _ (m : ℕ) (pos : 0 < m) where
       H = monic-series m pos mh
 
       low : D.Deg Z k (⟦ Z ⟧ (minus m pos p q))
-      low = record { above = λ i l. residue-at m pos w i 0 (level p q i (d .above i l)) }
+      low = record { above = λ i l. residue-at m pos w i 0 (level m pos p q i (d .above i l)) }
 
       at : (i : ℕ) → ⟦ Z ⟧ (times h w) i ≡ S._⊠_ Z (⟦ Z ⟧ h) (⟦ Z ⟧ w) i
       at i = ap (λ (x : ℕ → Res m pos). x i) (eval-times (Q m pos) h w _)

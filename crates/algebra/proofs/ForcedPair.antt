@@ -1,34 +1,31 @@
 -- Refuting: what agrees with f at the leading terms and at the powers x^(js) is the only candidate.
 --
---   left-forced                           left parts that agree at the powers x^(js) are the same
+--   minus, coef-minus, after-minus        p - q modulo m
+--   no-difference, all-round, level, equal     it is 0 exactly where p and q agree
+--   left-agree, left-forced               left parts, where what they compose to agrees at the powers x^(js), from x^k on or at all
 --   forced-pair                           every normal pair of f is the forced one
 --   leading                               of the leading terms only x^(n-1), .., x^(n-s+1) need a look
 --   forced-refutes                        a place where the forced pair differs from f shows that there is no pair at all
 --   left-refutes                          and for a given h that there is no left part
 use mathlib.Core.Path.{_≡_, refl, sym, ap, subst, _∙_}
 use mathlib.Core.List.{List}
-use Prim.Native.Nat.{ℕ, suc, _+_, _*_, _-_, _%_, _≤_, _<_}
+use Prim.Native.Nat.{ℕ, zero, suc, _+_, _*_, _-_, _%_, _≤_, _<_}
 use native.Mathlib.Nat as N
 use native.Mathlib.Omega.{arith}
 use native.Mathlib.Decide.{decLt}
-use lib.ListN.{length}
+use mathlib.Core.Logic.{⊎-elim}
+use lib.ListN.{length, List·getD-eq-default}
 use Rattle.algebra.specs.Polynomial.{coef, plus, scaled, after, Same, Monic, terms}
 use Rattle.algebra.specs.Number.{Invertible}
 use Rattle.algebra.specs.Pair.{Pair, Normal, NormalPair, NoPair}
-use Rattle.algebra.proofs.Ring as A
-use Rattle.algebra.proofs.Series as S
-use Rattle.algebra.proofs.Evaluation.{⟦_⟧, eval-plus, eval-scaled, eval-after}
-use Rattle.algebra.proofs.Residues.{residues, Res, red, equal→same}
-use Rattle.algebra.proofs.Degrees.{Deg, deg-down, deg-zero}
-use Rattle.algebra.proofs.Polynomials.{Q, same-refl, residue-at, at-residue, past, _⨾_, after-same}
+use Rattle.algebra.proofs.Evaluation.{eval-plus, eval-scaled, eval-after}
+use Rattle.algebra.proofs.Residues.{equal→same}
+use Rattle.algebra.proofs.Polynomials.{Q, same-refl, _⨾_, after-same}
 use Rattle.algebra.proofs.Coefficients.{coef-plus, coef-scaled, after-end, after-monic}
 use Rattle.algebra.proofs.Leading.{right-part-leading}
 use Rattle.algebra.proofs.Pairs.{no-normal-pair}
 
 module _ (m : ℕ) (pos : 0 < m) where
-  abbrev Z : A.Ring
-  Z = residues m pos
-
   -- p - q, modulo m
   abbrev pub minus : List ℕ → List ℕ → List ℕ
   minus p q = plus p (scaled (m - 1) q)
@@ -54,26 +51,37 @@ module _ (m : ℕ) (pos : 0 < m) where
   pub after-minus : (p q h : List ℕ) → Same m (after (minus p q) h) (minus (after p h) (after q h))
   after-minus p q h = equal→same m pos (simp (eval-after (Q m pos), eval-plus (Q m pos), eval-scaled (Q m pos)))
 
-  -- the top of w(h), where h is monic, is that of w
-  after-top : {j s : ℕ} (w : List ℕ) {h : List ℕ} → 0 < s → Monic m s h → Deg Z j (⟦ Z ⟧ w) → ⟦ Z ⟧ (after w h) (j * s) ≡ ⟦ Z ⟧ w j
-  after-top {j} {s} w {h} sp mh d = residue-at m pos (after w h) (j * s) (coef w j) (after-end m pos w sp mh (λ i l. at-residue m pos w i 0 (d .above i l)) .0)
-      ∙ sym (residue-at m pos w j (coef w j) refl)
+  -- p - q is 0 exactly where they agree
+  pub level : (p q : List ℕ) (i : ℕ) → coef p i % m ≡ coef q i % m → coef (minus p q) i % m ≡ 0 % m
+  level p q i e = ap (λ (x : ℕ). x % m) (coef-minus p q i) ∙ all-round _ _ e
 
-  -- left parts that agree at the powers x^(j s) are the same
-  pub left-forced : {s : ℕ} {g g′ h : List ℕ} → 0 < s → Monic m s h → ((j : ℕ) → coef (after g h) (j * s) % m ≡ coef (after g′ h) (j * s) % m) → Same m g g′
-  left-forced {s} {g} {g′} {h} sp mh e = record { at = λ i. no-difference (coef g i) (coef g′ i) (ap (λ (x : ℕ). x % m) (sym (coef-minus g g′ i)) ∙ at-residue m pos w i 0 (ap (λ (p : ℕ → Res m pos). p i) nothing)) }
+  pub equal : (p q : List ℕ) (i : ℕ) → coef (minus p q) i % m ≡ 0 % m → coef p i % m ≡ coef q i % m
+  equal p q i e = no-difference _ _ (ap (λ (x : ℕ). x % m) (sym (coef-minus p q i)) ∙ e)
+
+  -- where what left parts compose to agrees at the powers x^(js) from x^k on, they agree at these j
+  pub left-agree : (k : ℕ) {s : ℕ} (g g′ : List ℕ) {h : List ℕ} → 0 < s → Monic m s h
+      → ((j : ℕ) → k ≤ j * s → coef (after g h) (j * s) % m ≡ coef (after g′ h) (j * s) % m) → (j : ℕ) → k ≤ j * s → coef g j % m ≡ coef g′ j % m
+  left-agree k {s} g g′ {h} sp mh e j l = equal g g′ j (down (length w) (λ i b. ap (λ (x : ℕ). x % m) (List·getD-eq-default w 0 b)) j l)
     where
       w : List ℕ
       w = minus g g′
 
-      zeros : (j : ℕ) → ⟦ Z ⟧ (after w h) (j * s) ≡ red m pos 0
-      zeros j = residue-at m pos (after w h) (j * s) 0 (after-minus g g′ h .at (j * s) ∙ ap (λ (x : ℕ). x % m) (coef-minus (after g h) (after g′ h) (j * s)) ∙ all-round _ _ (e j))
+      -- from the top down, as long as x^(ns) is not below x^k
+      down : (n : ℕ) → ((i : ℕ) → n ≤ i → coef w i % m ≡ 0 % m) → (j : ℕ) → k ≤ j * s → coef w j % m ≡ 0 % m
+      down zero z j b = z j (omega arith)
+      down (suc n) z j b = step (decLt (n * s) k) (λ y. down n y j b)
+        where
+          step : Dec (n * s < k) → (((i : ℕ) → n ≤ i → coef w i % m ≡ 0 % m) → coef w j % m ≡ 0 % m) → coef w j % m ≡ 0 % m
+          step (no c) rest = rest (λ i l. ⊎-elim (λ (q : n ≡ i). rw (← q) (sym (after-end m pos w sp mh z .0) ∙ after-minus g g′ h .at (n * s) ∙ level (after g h) (after g′ h) (n * s) (e n (omega arith)))) (z i) (N.eq-or-lt-of-le l))
+          step (yes c) rest = z j (above (decLt n j))
+            where
+              above : Dec (n < j) → n < j
+              above (yes d) = d
+              above (no d) = absurd (omega (arith, N.mul-le-mul-right {m = j} {n = n} s (omega arith)))
 
-      low : Deg Z 0 (⟦ Z ⟧ w)
-      low = deg-down Z (λ j d. sym (after-top w sp mh d) ∙ zeros (suc j)) (length w) (record { above = λ i l. past Z w i (N.le-of-lt l) })
-
-      nothing : ⟦ Z ⟧ w ≡ A.Ring.𝟘 (S.series Z)
-      nothing = deg-zero Z low (sym (after-top w sp mh low) ∙ zeros 0)
+  -- left parts that agree at all powers x^(js) are the same
+  pub left-forced : {s : ℕ} {g g′ h : List ℕ} → 0 < s → Monic m s h → ((j : ℕ) → coef (after g h) (j * s) % m ≡ coef (after g′ h) (j * s) % m) → Same m g g′
+  left-forced {g = g} {g′ = g′} sp mh e = record { at = λ i. left-agree 0 g g′ sp mh (λ j l. e j) i (omega arith) }
 
   -- the forced pair: (g, h), monic and normal, agrees with f at the s leading terms and at the powers x^(j s)
   -- then every normal pair of f is (g, h)

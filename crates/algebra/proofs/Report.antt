@@ -3,6 +3,7 @@
 --   forced-top         the forced pair agrees with f at the s leading terms
 --   forced-differs     another left part may tell it, where it differs from f at no power x^(is)
 --   report-above       the report is no power x^(is), so never 0
+--   one-less, report-low    x^(n-s) is a power x^(is), and the report is below it
 --   nearest            no pair whatever agrees with f above a lower power: the report needs no forced pair to be said
 --   report-unique      so there is one
 --   report-refutes     where there is one, there is no pair
@@ -25,9 +26,13 @@ use Rattle.algebra.proofs.Moved.{line-end}
 use Rattle.algebra.proofs.Factors.{invertible-one, invertible-pow}
 use Rattle.algebra.proofs.Leading.{right-part-leading}
 use Rattle.algebra.proofs.Changes.{changed-by-nothing, changed-pair, changed-exists, changed-right-exists, changed-undone, undo, undoes-sym, undoes-invertible}
-use Rattle.algebra.proofs.ForcedPair.{minus, after-minus, left-forced, leading}
+use Rattle.algebra.proofs.ForcedPair.{minus, after-minus, level, equal, left-forced, leading}
 use Rattle.algebra.proofs.RightPart.{forced-leading, forced-unique}
-use Rattle.algebra.proofs.Agreement.{level, equal, forced-agree}
+use Rattle.algebra.proofs.Agreement.{forced-agree}
+
+pub one-less : (r s : ℕ) → (r - 1) * s ≡ r * s - s
+one-less zero s = omega arith
+one-less (suc r) s = let e : suc r - 1 ≡ r = omega arith in rw e (omega arith)
 
 module _ {m : ℕ} (pos : 0 < m) where
   pub forced-top : {r s : ℕ} {f g h : List ℕ} → 0 < r → 0 < s → Monic m (r * s) f → ForcedRight m r s f h → Monic m r g
@@ -44,6 +49,14 @@ module _ {m : ℕ} (pos : 0 < m) where
 
   pub report-above : {r s k : ℕ} {f : List ℕ} → Report m r s f k → (i : ℕ) → ¬ (k ≡ i * s)
   report-above R i e = R .differs .here (rw e (sym (R .forced .left .forced i)))
+
+  pub report-low : {r s k : ℕ} {f : List ℕ} → 0 < r → 0 < s → Monic m (r * s) f → Report m r s f k → k + s < r * s
+  report-low {r} {s} {k} rp sp mf R = go (decLt (r * s) (k + s)) (decLt (k + s) (r * s))
+    where
+      go : Dec (r * s < k + s) → Dec (k + s < r * s) → k + s < r * s
+      go (yes l) b = absurd (R .differs .here (forced-top rp sp mf (R .forced .right) (R .forced .left .monic) k l))
+      go (no l) (yes b) = b
+      go (no l) (no b) = absurd (report-above R (r - 1) (omega (arith, one-less r s)))
 
   -- any pair becomes normal: the change (1, 0) does it
   normal : {r s : ℕ} {g h : List ℕ} → 0 < r → 0 < s → Monic m r g → Monic m s h
@@ -63,14 +76,10 @@ module _ {m : ℕ} (pos : 0 < m) where
       d : Differs m f (after (R .g) (R .h)) p
       d = R .differs
 
-      low : Dec (r * s < p + s) → p + s ≤ r * s
-      low (yes l) = absurd (d .here (forced-top rp sp mf (F .right) (F .left .monic) p l))
-      low (no l) = omega arith
-
       side : Dec (k < p) → p ≤ k
       side (no b) = omega arith
       side (yes b) =
-          let bound : p + s ≤ r * s = low (decLt (r * s) (p + s)) in
+          let bound : p + s < r * s = report-low rp sp mf R in
           let (g″, h″, P, z) = normal rp sp mg′ mh′ in
           let right : Same m h″ (R .h) = right-part-leading m pos rp inv (P .left) (F .left .monic) (P .right) (F .right .monic) z (F .right .normal)
           (λ i l. sym (P .whole .at i) ∙ sym (e i (omega arith)) ∙ forced-top rp sp mf (F .right) (F .left .monic) i l) in

@@ -1,20 +1,21 @@
 -- 01's Right part rule.
 --
+--   monomial, monomial-monic              x^r
 --   power-at                              how the place j + (r-1)s of h^r knows the coefficient of x^j
+--   after-power                           the leading terms of g(h) are those of h^r
 --   right-term                            the two sides of 01's equation, for any monic g and h
 --   pair-forced                           every normal pair obeys the rule
 --   forced-leading                        what obeys it agrees with f at the leading terms, whatever the monic g
 --   forced-terms                          it looks at the leading terms of f only
 --   forced-unique                         and tells h, where r has an inverse
---   split-refuted                         h by the rule, g by system (1) of document 000, one difference: no pair
 use mathlib.Core.Path.{_≡_, refl, sym, ap, ap₂, subst, _∙_}
 use mathlib.Core.List.{List, [], _∷_}
 use Prim.Native.Nat.{ℕ, zero, suc, _+_, _*_, _-_, _%_, _≤_, _<_}
 use native.Mathlib.Nat as N
 use native.Mathlib.Omega.{arith}
-use Rattle.algebra.specs.Polynomial.{coef, power, after, Same, Monic, terms}
+use Rattle.algebra.specs.Polynomial.{coef, power, after, Same, Monic}
 use Rattle.algebra.specs.Number.{Invertible}
-use Rattle.algebra.specs.Pair.{Pair, Normal, NoPair, ForcedRight, terms-from}
+use Rattle.algebra.specs.Pair.{Pair, Normal, ForcedRight, terms-from}
 use Rattle.algebra.proofs.Ring as A
 use Rattle.algebra.proofs.Series as S
 use Rattle.algebra.proofs.Evaluation.{⟦_⟧, nat, nat-add, nat-mul, nat-zero, eval-power, pow, series-coef}
@@ -24,7 +25,7 @@ use Rattle.algebra.proofs.Forced.{pow-top, lead-at}
 use Rattle.algebra.proofs.Polynomials.{after-compose, monic-series, residue-at, at-residue}
 use Rattle.algebra.proofs.Coefficients.{after-monic}
 use Rattle.algebra.proofs.Leading.{right-part-leading}
-use Rattle.algebra.proofs.ForcedPair.{leading, forced-refutes}
+use Rattle.algebra.proofs.ForcedPair.{leading}
 use Rattle.algebra.proofs.Residues
 
 terms-from-below : (j : ℕ) (h : List ℕ) (i : ℕ) → i < j → coef (terms-from j h) i ≡ 0
@@ -134,10 +135,3 @@ module _ (m : ℕ) (pos : 0 < m) where
     where
       mx : Monic m r (monomial r)
       mx = monomial-monic m r
-
-  -- the split, exactly: h by 01's rule, g by system (1) of document 000, and the last comparison
-  pub split-refuted : {n r s : ℕ} {f g h : List ℕ} → 0 < r → 0 < s → r < terms → s < terms → r * s ≡ n → Invertible m r
-      → Monic m n f → Monic m r g → ForcedRight m r s f h → ((j : ℕ) → j < r → coef f (j * s) % m ≡ coef (after g h) (j * s) % m)
-      → (i : ℕ) → ¬ (coef f i % m ≡ coef (after g h) i % m) → NoPair m f r s
-  split-refuted {f = f} {g = g} {h = h} rp sp rl sl e inv mf mg c low i ne = forced-refutes m pos rp sp rl sl e inv mf mg (c .monic) (c .normal)
-      (λ k a b. subst (λ (x : ℕ). coef f (x - k) % m ≡ coef (after g h) (x - k) % m) e (forced-leading rp c mg k a b)) low i ne

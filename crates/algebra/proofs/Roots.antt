@@ -2,15 +2,18 @@
 --
 --   root-gap         if f = g(h) then the place s + 1 of the root is 0
 --   root-differs     where it is not, the forced pair and f differ at x^(n-s-1), and not above
+--   root-closes      and where it is, that is not the report
 use mathlib.Core.Path.{_≡_, refl, sym, ap, ap₂, _∙_}
 use mathlib.Core.List.{List, [], _∷_}
 use Prim.Native.Nat.{ℕ, zero, suc, _+_, _*_, _-_, _%_, _≤_, _<_}
 use native.Mathlib.Nat as N
 use native.Mathlib.Omega.{arith}
 use native.Mathlib.Decide.{decLt}
+use lib.ListN.{drop}
+use lib.Seq.{getD-drop}
 use Rattle.algebra.specs.Number.{Invertible}
 use Rattle.algebra.specs.Polynomial.{coef, times, power, after, Same, Monic}
-use Rattle.algebra.specs.Pair.{Pair, ForcedRight, ForcedPair, Differs, terms-from}
+use Rattle.algebra.specs.Pair.{Pair, ForcedRight, ForcedPair, Differs, Report, terms-from}
 use Rattle.algebra.proofs.Ring as A
 use Rattle.algebra.proofs.Series as S
 use Rattle.algebra.proofs.Evaluation.{⟦_⟧, nat-zero, eval-cons, eval-power, eval-after, pow, pow-zero, pow-suc}
@@ -18,10 +21,10 @@ use Rattle.algebra.proofs.Residues.{Res, equal→same}
 use Rattle.algebra.proofs.Lines.{pow-mul}
 use Rattle.algebra.proofs.Numbers.{mod-mul-mod}
 use Rattle.algebra.proofs.Coefficients.{coef-times-zero, coef-times-suc, after-monic, power-monic}
-use Rattle.algebra.proofs.Polynomials.{Z, Q, same-refl, residue-at, at-residue}
-use Rattle.algebra.proofs.RightPart.{monomial, monomial-monic, power-at, after-power, pair-forced, forced-terms, forced-unique}
-use Rattle.algebra.proofs.Agreement.{after-agree}
-use Rattle.algebra.proofs.Report.{forced-top}
+use Rattle.algebra.proofs.Polynomials.{Z, Q, _⨾_, same-refl, same-sym, power-same, x-after, residue-at, at-residue}
+use Rattle.algebra.proofs.RightPart.{monomial, monomial-monic, power-at, after-power, pair-forced, forced-leading, forced-terms, forced-unique}
+use Rattle.algebra.proofs.Agreement.{after-agree, tops}
+use Rattle.algebra.proofs.Report.{one-less, forced-top, nearest}
 
 nothing : (q : List ℕ) (k : ℕ) → coef (times [] q) k ≡ 0
 unfolding times
@@ -41,10 +44,6 @@ x-power : (n : ℕ) → coef (power (0 ∷ 1 ∷ []) (suc n)) n ≡ 0
 unfolding power
 x-power zero = coef-times-zero (0 ∷ 1 ∷ []) (1 ∷ []) ∙ N.zero-mul 1
 x-power (suc n) = x-up (power (0 ∷ 1 ∷ []) (suc n)) n ∙ x-power n
-
-one-less : (r s : ℕ) → (r - 1) * s ≡ r * s - s
-one-less zero s = omega arith
-one-less (suc r) s = let e : suc r - 1 ≡ r = omega arith in rw e (omega arith)
 
 module _ (m : ℕ) (pos : 0 < m) where
   raised : (q : ℕ → Res m pos) (r i : ℕ) → S._⊠_ (Z m pos) (pow (Q m pos) (S.X (Z m pos)) r) q (r + i) ≡ q i
@@ -76,13 +75,20 @@ module _ (m : ℕ) (pos : 0 < m) where
       let e : 0 + n * 1 ≡ n = omega arith in
       (rw e at (power-at m pos n 0 (omega arith) (line-monic c))) ∙ ap (λ (x : ℕ). (x + suc n * c) % m) (x-power n) ∙ ap (λ (x : ℕ). x % m) (N.zero-add _)
 
+  -- a power of h + c, as a polynomial in h
+  line-power : (c n : ℕ) (h : List ℕ) → Same m (power (after (c ∷ 1 ∷ []) h) n) (after (power (c ∷ 1 ∷ []) n) h)
+  line-power c n h = equal→same m pos (simp (eval-power (Q m pos), eval-after (Q m pos)))
+
+  line-power-monic : (c n : ℕ) → Monic m n (power (c ∷ 1 ∷ []) n)
+  line-power-monic c n = let e : n * 1 ≡ n = omega arith in rw e at (power-monic m pos (line-monic c) n)
+
   -- g and (x + c)^r agree at their two highest places, where r·c is g's second
   same-left : {q : ℕ} {g : List ℕ} (c : ℕ) → Monic m (suc (suc q)) g → suc (suc q) * c % m ≡ coef g (suc q) % m
       → (i : ℕ) → q < i → coef (power (c ∷ 1 ∷ []) (suc (suc q))) i % m ≡ coef g i % m
   same-left {q} {g} c mg e i l = go (decLt i (suc (suc q))) (decLt (suc (suc q)) i)
     where
       mon : Monic m (suc (suc q)) (power (c ∷ 1 ∷ []) (suc (suc q)))
-      mon = let e : suc (suc q) * 1 ≡ suc (suc q) = omega arith in rw e at (power-monic m pos (line-monic c) (suc (suc q)))
+      mon = line-power-monic c (suc (suc q))
 
       go : Dec (i < suc (suc q)) → Dec (suc (suc q) < i) → coef (power (c ∷ 1 ∷ []) (suc (suc q))) i % m ≡ coef g i % m
       go (yes a) b = let w : i ≡ suc q = omega arith in rw w (line-second c (suc q) ∙ e)
@@ -92,10 +98,7 @@ module _ (m : ℕ) (pos : 0 < m) where
   -- f = g(h) and (h + c)^r agree past x^((r-2)s)
   same-top : {q s : ℕ} {f g h : List ℕ} (c : ℕ) → 0 < s → Pair m f (suc (suc q)) s g h → suc (suc q) * c % m ≡ coef g (suc q) % m
       → (i : ℕ) → q * s < i → coef (power (after (c ∷ 1 ∷ []) h) (suc (suc q))) i % m ≡ coef f i % m
-  same-top {q} {s} {f} {g} {h} c sp p e i l = spread .at i ∙ after-agree m pos q (power (c ∷ 1 ∷ []) (suc (suc q))) g sp (p .right) (same-left c (p .left) e) i l ∙ sym (p .whole .at i)
-    where
-      spread : Same m (power (after (c ∷ 1 ∷ []) h) (suc (suc q))) (after (power (c ∷ 1 ∷ []) (suc (suc q))) h)
-      spread = equal→same m pos (simp (eval-power (Q m pos), eval-after (Q m pos)))
+  same-top {q} {g = g} {h = h} c sp p e i l = line-power c (suc (suc q)) h .at i ∙ after-agree m pos q (power (c ∷ 1 ∷ []) (suc (suc q))) g sp (p .right) (same-left c (p .left) e) i l ∙ sym (p .whole .at i)
 
   twice-raised-monic : {s : ℕ} {k : List ℕ} → Monic m s k → Monic m (s + 2) (0 ∷ 0 ∷ k)
   twice-raised-monic {s} {k} mk = record { top = ap (λ (i : ℕ). coef (0 ∷ 0 ∷ k) i % m) two ∙ mk .top; above = far }
@@ -180,3 +183,43 @@ module _ (m : ℕ) (pos : 0 < m) where
           go : Dec (k < s + 1) → coef f (r * s - k) % m ≡ coef (after g h) (r * s - k) % m
           go (yes d) = above (r * s - k) (omega (arith, N.mul-le-mul-right {m = 2} {n = r} s a))
           go (no d) = let v : r * s - s - 1 ≡ r * s - k = omega arith in rw v at w
+
+  -- H without its two lowest places, which are 0: then f and its r-th power agree as far as x^(n-s-1), so that no report is there
+  pub root-closes : {r s : ℕ} {f F H : List ℕ} → 2 ≤ r → 2 ≤ s → Invertible m r → ForcedRight m r (s + 2) F H
+      → ((k : ℕ) → 0 < k → k < s + 2 → coef F (r * (s + 2) - k) % m ≡ coef f (r * s - k) % m) → Monic m (r * s) f
+      → coef H 1 % m ≡ 0 % m → Report m r s f (r * s - s - 1) → ⊥
+  root-closes {r = zero} a b inv c e mf z R = absurd (omega arith)
+  root-closes {r = suc zero} a b inv c e mf z R = absurd (omega arith)
+  root-closes {r = suc (suc q)} {s = s} {f = f} {F = F} {H = H} a b inv c e mf z R =
+      let l = nearest pos {k = suc (suc q) * s - s - 2} (omega arith) (omega arith) inv mf R (line-power-monic 0 (suc (suc q))) monic agree in
+      omega (arith, l, N.mul-le-mul-right {m = 2} {n = suc (suc q)} s a)
+    where
+      monic : Monic m s (drop 2 H)
+      monic = record { top = ap (λ (x : ℕ). x % m) (getD-drop 2 H s 0 ∙ ap (coef H) (N.add-comm 2 s)) ∙ c .monic .top; above = λ i l. ap (λ (x : ℕ). x % m) (getD-drop 2 H i 0) ∙ c .monic .above (2 + i) (omega arith) }
+
+      raised-again : Same m H (0 ∷ 0 ∷ drop 2 H)
+      raised-again = record { at = at }
+        where
+          at : (i : ℕ) → coef H i % m ≡ coef (0 ∷ 0 ∷ drop 2 H) i % m
+          at zero = c .normal .constant
+          at (suc zero) = z
+          at (suc (suc i)) = ap (λ (x : ℕ). x % m) (sym (getD-drop 2 H i 0 ∙ ap (coef H) (omega arith)))
+
+      whole : Same m (after (power (0 ∷ 1 ∷ []) (suc (suc q))) (drop 2 H)) (power (drop 2 H) (suc (suc q)))
+      whole = same-sym (line-power 0 (suc (suc q)) (drop 2 H)) ⨾ power-same m pos (suc (suc q)) (x-after m pos (drop 2 H))
+
+      lead : (j : ℕ) → 0 < j → j < s + 2 → coef f (suc (suc q) * s - j) % m ≡ coef (after (power (0 ∷ 1 ∷ []) (suc (suc q))) (drop 2 H)) (suc (suc q) * s - j) % m
+      lead j l u =
+          let t : suc (suc q) * 2 ≤ suc (suc q) * s = N.mul-le-mul-left (suc (suc q)) b in
+          let w : suc (suc q) * (s + 2) - j ≡ suc (suc q) + (suc (suc q) + (suc (suc q) * s - j)) = omega arith in
+          sym (e j l u) ∙ forced-leading m pos (omega arith) c (monomial-monic m (suc (suc q))) j l u
+          ∙ after-power m pos (suc q) (monomial-monic m (suc (suc q))) (c .monic) (suc (suc q) * (s + 2) - j) (omega arith)
+          ∙ power-same m pos (suc (suc q)) raised-again .at _ ∙ ap (λ (i : ℕ). coef (power (0 ∷ 0 ∷ drop 2 H) (suc (suc q))) i % m) w
+          ∙ power-raised (0 ∷ drop 2 H) (suc (suc q)) (suc (suc q) + (suc (suc q) * s - j)) ∙ power-raised (drop 2 H) (suc (suc q)) (suc (suc q) * s - j) ∙ sym (whole .at _)
+
+      agree : (i : ℕ) → suc (suc q) * s - s - 2 < i → coef f i % m ≡ coef (after (power (0 ∷ 1 ∷ []) (suc (suc q))) (drop 2 H)) i % m
+      agree i l = go (decLt i (suc (suc q) * s))
+        where
+          go : Dec (i < suc (suc q) * s) → coef f i % m ≡ coef (after (power (0 ∷ 1 ∷ []) (suc (suc q))) (drop 2 H)) i % m
+          go (yes d) = let w : suc (suc q) * s - (suc (suc q) * s - i) ≡ i = omega arith in rw w at (lead (suc (suc q) * s - i) (omega arith) (omega (arith, N.mul-le-mul-right {m = 2} {n = suc (suc q)} s a)))
+          go (no d) = tops m pos mf (after-monic m pos (omega arith) (line-power-monic 0 (suc (suc q))) monic) i (omega arith)

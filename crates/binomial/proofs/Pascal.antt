@@ -5,7 +5,7 @@
 --   stepped-none, stepped-more, stepped-all      no place, one more, all
 --   sum-fits                                     the sum of two neighbours fits a word
 --   table-end, table-row                         row r in the table: it lies there, and it is that row
-use mathlib.Core.Path.{_≡_, refl, sym, _∙_, ap, ap₂}
+use mathlib.Core.Path.{_≡_, refl, sym, _∙_, ap}
 use mathlib.Core.Logic.{⊎-elim}
 use mathlib.Core.List.{List}
 use Prim.Native.Nat.{ℕ, zero, suc, _+_, _*_, _-_, _/_, _^_, _≤_, _<_}

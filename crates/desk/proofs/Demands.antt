@@ -164,7 +164,7 @@ write-text-answer = text-law.write-determined
 
 -- Demand 2
 
-pub quick-exact : {m r : ℕ} {f : List ℕ} → length f ≡ terms → {x : Verdict} {y : Parts} → QuickOf m f r x → Splits m f r y → Agree x y
+pub quick-exact : {m r : ℕ} {f : List ℕ} → length f ≡ terms → {x : Verdict} {y : Parts} → QuickOf m f r x → Splits m f r y → Agree m f r x y
 quick-exact = report-law.quick-split
 
 pub quick-report : {m r : ℕ} {f : List ℕ} → length f ≡ terms → {x : Verdict} → QuickOf m f r x → x .outcome ≡ Answered → x .splits ≡ false → Reported m f r (degree f / r) (x .power)

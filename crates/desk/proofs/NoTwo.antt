@@ -137,8 +137,8 @@ unfolding check-split
 no-two-quick {f} {r} m (quick.refused e q) =
     not-as (ap (λ (x : Verdict). x .outcome) q ∙ sym e) (not-then (check-one machine-words f) _ (not-check-one m) (not-refuse (not (fits (degree f) r)) Neither reason.Fit (λ e. omega arith)))
 no-two-quick m (quick.shared e n q) = not-as (ap (λ (x : Verdict). x .outcome) q) (not-refusal Neither reason.Factor (λ e. omega arith))
-no-two-quick m (quick.composes e c k q) = not-as (ap (λ (x : Verdict). x .outcome) q) not-answered
-no-two-quick m (quick.differs e c k q) = not-as (ap (λ (x : Verdict). x .outcome) q) not-answered
+no-two-quick m (quick.answered e c (quick.composes k q)) = not-as (ap (λ (x : Verdict). x .outcome) q) not-answered
+no-two-quick m (quick.answered e c (quick.differs k q)) = not-as (ap (λ (x : Verdict). x .outcome) q) not-answered
 
 pub no-two-change-polynomial : {f : List ℕ} {c : Change} {x : Answer} → Machine f → ChangesPolynomial machine-words f c x → NotTwo (x .outcome)
 unfolding nothing

@@ -6,7 +6,6 @@
 --   split-changed       splitting the changed f gives the changed pair; and every refusal, "no pair" included, is that of f
 use mathlib.Core.Path.{_≡_, refl, sym, ap, _∙_}
 use mathlib.Core.Logic.{_↔_}
-use mathlib.Core.Bool.{false}
 use mathlib.Core.List.{List}
 use Prim.Native.Nat.{ℕ, _/_, _<_}
 use native.Mathlib.Omega.{arith}
@@ -32,7 +31,7 @@ use Rattle.polynomial.proofs.Acceptance.{accepted-one, one-accepted, accepted-a
 use Rattle.pair.specs.Pairing.{check-split, Splits}
 use Rattle.pair.specs.Pairing as pairing
 use Rattle.pair.specs.declared.Verdict.{Verdict}
-use Rattle.pair.specs.Asking.{QuickOf}
+use Rattle.pair.specs.Asking.{a-no, QuickAnswer, QuickOf}
 use Rattle.pair.specs.Asking as quick
 use Rattle.pair.proofs.Reports.{posed, refutes, quick-determined}
 use Rattle.pair.proofs.Forcing.{fits-below}
@@ -142,24 +141,25 @@ module _ {m : ℕ} {c : Change} {f f′ : List ℕ} (x : Altered m c f f′) whe
         refused = λ b. absurd (b o);
       }
 
-  -- where both have a no, the power is the same; a yes of one is a yes of the other
-  same-verdict : (r : ℕ) (e : check-split m f r ≡ Answered) → Coprime r m → {k : ℕ} {y z : Verdict} → Report m r (degree f / r) f k → y ≡ record { outcome = Answered; splits = false; power = k } → QuickOf m f′ r z → z ≡ y
-  same-verdict r e d {k} R p (quick.refused w q) = absurd (never w (same-checks r ∙ e))
-  same-verdict r e d {k} R p (quick.shared w n q) = absurd (n d)
-  same-verdict r e d {k} R p (quick.composes {g = g} {h = h} w n P q) = absurd (unsplit r e (refutes (posed (x .long) e d) R) g h (rw same-degree at P))
-  same-verdict r e d {k} R p (quick.differs w n T q) =
+  -- past the checks: a yes of one is a yes of the other, and where both have a no, the power is the same
+  same-verdict : (r : ℕ) → check-split m f r ≡ Answered → Coprime r m → {y z : Verdict} → QuickAnswer m f r (degree f / r) y → QuickAnswer m f′ r (degree f′ / r) z → z ≡ y
+  same-verdict r e d (quick.composes n p) (quick.composes l q) = q ∙ sym p
+  same-verdict r e d (quick.composes n p) (quick.differs T q) =
+      let w = fit r e in
+      let (g′, h′, k, n′) = P.changed-pair-exists pos (omega (arith, w .two-left)) (omega (arith, w .two-right)) (fits-below w .0) (fits-below w .1) (w .product)
+      (coprime-invertible m pos (x .proper .invertible)) n (x .changed) in
+      absurd (refutes (posed (x .reduced .long) (same-checks r ∙ e) d) T g′ h′ (rw same-degree (n′ .pair)))
+  same-verdict r e d (quick.differs R p) (quick.composes {g = g} {h = h} l q) = absurd (unsplit r e (refutes (posed (x .long) e d) R) g h (rw same-degree at l))
+  same-verdict r e d (quick.differs R p) (quick.differs T q) =
       let P = posed (x .long) e d in
-      let P′ = posed (x .reduced .long) w d in
+      let P′ = posed (x .reduced .long) (same-checks r ∙ e) d in
       let T′ : Report m r (degree f / r) f′ _ = rw same-degree at T in
       let s = report-changed pos (P .left) (P .right) (P .product) (P .unit) (coprime-invertible m pos (x .proper .invertible)) (P .whole) (rw same-degree at (P′ .whole)) (x .changed) R T′ in
-      q ∙ ap (λ (j : ℕ). record { outcome = Answered; splits = false; power = j }) (sym s) ∙ sym p
+      q ∙ ap a-no (sym s) ∙ sym p
 
   pub quick-changed : (r : ℕ) {y z : Verdict} → QuickOf m f r y → QuickOf m f′ r z → z ≡ y
   quick-changed r (quick.refused e p) s = quick-determined (x .reduced .long) s (quick.refused (same-checks r ∙ e) refl) ∙ sym p
   quick-changed r (quick.shared e d p) s = quick-determined (x .reduced .long) s (quick.shared (same-checks r ∙ e) d refl) ∙ sym p
-  quick-changed r (quick.composes {g = g} {h = h} e d n p) s =
-      let w = fit r e in
-      let (g′, h′, k, n′) = P.changed-pair-exists pos (omega (arith, w .two-left)) (omega (arith, w .two-right)) (fits-below w .0) (fits-below w .1) (w .product)
-      (coprime-invertible m pos (x .proper .invertible)) n (x .changed) in
-      quick-determined (x .reduced .long) s (quick.composes {g = g′} {h = h′} (same-checks r ∙ e) d (rw same-degree (n′ .pair)) refl) ∙ sym p
-  quick-changed r (quick.differs e d R p) s = same-verdict r e d R p s
+  quick-changed r (quick.answered e d a) (quick.refused w q) = absurd (never w (same-checks r ∙ e))
+  quick-changed r (quick.answered e d a) (quick.shared w n q) = absurd (n d)
+  quick-changed r (quick.answered e d a) (quick.answered w n b) = same-verdict r e d a b

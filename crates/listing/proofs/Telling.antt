@@ -34,17 +34,17 @@ use Rattle.listing.specs.Listing as of
 
 -- ---- the chain of an accepted record
 
-blank-long : length blank ≤ area-words
-blank-long = let e : length blank ≡ area-words = length-replicate area-words 0 in omega arith
+blank-long : length blank ≡ area-words
+blank-long = length-replicate area-words 0
 
 -- an area of zeros is cleared already
 blank-cleared : blank ≡ cleared blank
 unfolding cleared
-blank-cleared = sym (append-nil blank) ∙ ap (_++_ blank) (sym (drop-of-length-le blank {i = area-words} blank-long))
+blank-cleared = sym (append-nil blank) ∙ ap (_++_ blank) (sym (drop-of-length-le blank {i = area-words} (omega (arith, blank-long))))
 
 -- what the search finds in it answers: the chain
 pub told-blank : {m n : ℕ} {f ys : List ℕ} {x : Chained} → check-one m f ≡ Answered → n ≡ degree f → ChainFound m n f blank ys x → ChainOf m f blank ys x
-told-blank e n-is k = told-found (let l : length blank ≡ area-words = length-replicate area-words 0 in omega arith) (sym e) refl n-is blank-cleared k
+told-blank e n-is k = told-found (omega (arith, blank-long)) (sym e) refl n-is blank-cleared k
 
 -- its numbers are no larger than a line has room for
 pub record Fitting (f : List ℕ) (x : Chained) : Type 0 where

@@ -109,5 +109,4 @@ module _ (m : ℕ) (f : List ℕ) (r : ℕ) {o : Outcome} (o-is : o ≡ check-sp
   quick-shared t n w e = quick.shared (passed t) n (e ∙ ap unasked w)
 
   pub quick-told : {n : ℕ} {x : Verdict} → n ≡ degree f → is-refused o ≡ false → Coprime r m → QuickAnswer m f r (n / r) x → QuickOf m f r x
-  quick-told n-is t c (quick.found {g = g} {h = h} p e) = quick.composes {g = g} {h = h} (passed t) c (rw (← n-is) p) e
-  quick-told n-is t c (quick.apart {k = k} p e) = quick.differs {k = k} (passed t) c (rw (← n-is) p) e
+  quick-told n-is t c a = quick.answered (passed t) c (rw (← n-is) a)

@@ -124,8 +124,8 @@ asked-left a d whole h = record { modulus = a; degrees = d; whole = whole; right
 
 -- what the digits tell
 pub report-told : {m r s k : ℕ} {f h : List ℕ} → 0 < m → RightPart m f r s h → LeftReport m f r s h k → QuickAnswer m f r s (record { outcome = Answered; splits = eqb k 0; power = k })
-report-told pos right (digits.composes {g = g} mg w e) = quick.found {g = g} (record { left = mg; right = right .forced .monic; whole = w }) (rw e refl)
-report-told {m} {r} {s} {k} {f} {h} pos right (digits.differs {g = g} L d) = quick.apart {k = k} R (ap (λ (b : Bool). record { outcome = Answered; splits = b; power = k }) (ne-eqb k 0 (λ e. report-above pos R 0 (e ∙ sym (N.zero-mul s)))))
+report-told pos right (digits.composes {g = g} mg w e) = quick.composes {g = g} (record { left = mg; right = right .forced .monic; whole = w }) (rw e refl)
+report-told {m} {r} {s} {k} {f} {h} pos right (digits.differs {g = g} L d) = quick.differs {k = k} R (ap (λ (b : Bool). record { outcome = Answered; splits = b; power = k }) (ne-eqb k 0 (λ e. report-above pos R 0 (e ∙ sym (N.zero-mul s)))))
   where
     R : Report m r s f k
     R = record { g = g; h = h; forced = record { right = right .forced; left = L }; differs = d }

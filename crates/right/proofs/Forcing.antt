@@ -1,11 +1,10 @@
 -- The rows that the loops fill are those of the right part that 01's rule forces.
 --
---   rows-root      row 0, from the top, is the right part of f as far as place s - 1; where its place s + 1 is not 0, the report
+--   rows-root      row 0, from the top, is the right part of f as far as place s - 1; its place s + 1 tells whether x^(n-s-1) is the report
 use mathlib.Core.Path.{_≡_, refl, sym, _∙_, ap, ap₂}
-use mathlib.Core.Bool.{false, true≢false}
 use mathlib.Core.List.{List, [], _∷_}
 use lib.Dec.{eqb}
-use borrow.Author.Tests.{eq-eqb}
+use borrow.Author.Tests.{eqb-true, eqb-false}
 use Prim.Native.Nat.{ℕ, zero, suc, min, _+_, _*_, _-_, _%_, _≤_, _<_}
 use native.Mathlib.Nat.{mul-le-mul-right, mod-mod, mod-eq-of-lt, zero-mod, not-suc-le-zero}
 use native.Mathlib.Omega.{arith}
@@ -25,7 +24,7 @@ use Rattle.algebra.proofs.Tops.{rev, rev-at, rev-past, top-power, order-pow, ro
 use Rattle.algebra.proofs.Polynomials.{Z, monic-series, at-residue}
 use Rattle.algebra.proofs.RightPart.{power-at, forced-terms}
 use Rattle.algebra.proofs.Agreement.{forced-left-exists}
-use Rattle.algebra.proofs.Roots.{root-differs}
+use Rattle.algebra.proofs.Roots.{root-differs, root-closes}
 use Rattle.algebra.proofs.Numbers.{table-below}
 use Rattle.residue.specs.Residue.{strided}
 use Rattle.residue.proofs.Inner.{inner-none, inner-more, strided-none, strided-more}
@@ -220,45 +219,48 @@ module _ {m : ℕ} (one : 1 < m) {f : List ℕ} {n r s u : ℕ} {b a : List ℕ}
     leading = λ f′ e. forced-terms m pos (λ k l g. ap (λ (x : ℕ). x % m) (e k g)) (rows-read (upside-reads U));
   }
 
+  -- row 0 as far as place s + 1, from the top
+  abbrev top-row : List ℕ
+  top-row = 0 ∷ down (s + 1) a
+
+  whole : Reads (s + 2) a top-row
+  whole = let wide : suc (s + 1) ≡ s + 2 = omega arith in rw wide at (down-reads (s + 1) a)
+
+  lead : (k : ℕ) → 0 < k → k < s + 2 → coef (power top-row r) (r * (s + 2) - k) % m ≡ coef f (n - k) % m
+  lead k l g = leading m pos (D .two-left) (omega arith) (omega arith) (omega arith) B unit T whole k l g
+
+  lead-product : (k : ℕ) → 0 < k → k < s + 2 → coef (power top-row r) (r * (s + 2) - k) % m ≡ coef f (r * s - k) % m
+  lead-product k l g = lead k l g ∙ ap (λ (x : ℕ). coef f (x - k) % m) (sym (D .product))
+
+  root : ForcedRight m r (s + 2) (power top-row r) top-row
+  root = rows-forced m pos (D .two-left) (omega arith) (omega arith) (omega arith) B unit T whole {F = power top-row r} lead
+
+  last : coef a (s + 1) ≡ coef top-row 1
+  last = sym (down-is (s + 1) a 0 (omega arith) ∙ ap (coef a) (omega arith))
+
   -- place s + 1 of the root is not 0
   rows-gap : ¬ (coef a (s + 1) ≡ 0) → Monic m (r * s) f → Report m r s f (r * s - s - 1)
   rows-gap bad mf =
       let (g, L) = forced-left-exists m pos (omega arith) (right .monic) mf in
       record {
         g = g;
-        h = h;
+        h = 0 ∷ down (s - 1) a;
         forced = record { right = right; left = L };
-        differs = root-differs m pos {F = power H r} (D .two-left) (D .two-right) (record { inverse = u; unit = unit })
-            (rows-forced m pos (D .two-left) (omega arith) (omega arith) (omega arith) B unit T read {F = power H r} lead)
-            (λ k l g. lead k l g ∙ ap (λ (x : ℕ). coef f (x - k) % m) (sym (D .product))) mf (record { right = right; left = L }) gap;
+        differs = root-differs m pos {F = power top-row r} (D .two-left) (D .two-right) (record { inverse = u; unit = unit }) root lead-product mf (record { right = right; left = L }) gap;
       }
     where
-      h : List ℕ
-      h = 0 ∷ down (s - 1) a
-
-      H : List ℕ
-      H = 0 ∷ down (s + 1) a
-
       narrow : suc (s - 1) ≡ s
       narrow = omega arith
 
       right : ForcedRight m r s f (0 ∷ down (s - 1) a)
       right = rows-read (rw narrow at (down-reads (s - 1) a))
 
-      wide : suc (s + 1) ≡ s + 2
-      wide = omega arith
-
-      read : Reads (s + 2) a (0 ∷ down (s + 1) a)
-      read = rw wide at (down-reads (s + 1) a)
-
-      lead : (k : ℕ) → 0 < k → k < s + 2 → coef (power (0 ∷ down (s + 1) a) r) (r * (s + 2) - k) % m ≡ coef f (n - k) % m
-      lead k l g = leading m pos (D .two-left) (omega arith) (omega arith) (omega arith) B unit T read k l g
-
-      here : coef a (s + 1) ≡ coef (0 ∷ down (s + 1) a) 1
-      here = sym (down-is (s + 1) a 0 (omega arith) ∙ ap (coef a) (omega arith))
-
       gap : ¬ (coef (0 ∷ down (s + 1) a) 1 % m ≡ 0 % m)
-      gap z = bad (sym (mod-eq-of-lt (T .room .small (s + 1))) ∙ ap (λ (x : ℕ). x % m) here ∙ z ∙ zero-mod m)
+      gap z = bad (sym (mod-eq-of-lt (T .room .small (s + 1))) ∙ ap (λ (x : ℕ). x % m) last ∙ z ∙ zero-mod m)
+
+  -- and where it is 0
+  rows-open : coef a (s + 1) ≡ 0 → Monic m (r * s) f → Report m r s f (r * s - s - 1) → ⊥
+  rows-open z mf = root-closes m pos {F = power top-row r} (D .two-left) (D .two-right) (record { inverse = u; unit = unit }) root lead-product mf (ap (λ (x : ℕ). x % m) (sym last ∙ z))
 
 -- what the leaf answers
 pub rows-root : {m : ℕ} {f : List ℕ} {n r s u top K : ℕ} {b a : List ℕ} → 1 < m → Degrees n r s → top ≡ min r (s + 1) → K ≡ s + 2
@@ -266,4 +268,4 @@ pub rows-root : {m : ℕ} {f : List ℕ} {n r s u top K : ℕ} {b a : List ℕ} 
 rows-root {m} {f} {n} {r} {s} {u} {top} {K} {b} {a} one D te ke B unit T =
     let B′ : Scaled m r u (min r (s + 1)) b = rw te at B in
     let T′ : Rows m f n r (s + 2) b (s + 2) a = rw ke at T in
-    record { room = T .room; part = rows-right one D B′ unit T′; no = λ t. rows-gap one D B′ unit T′ (λ z. true≢false (sym (eq-eqb _ _ z) ∙ t)) }
+    record { room = T .room; part = rows-right one D B′ unit T′; no = λ t. rows-gap one D B′ unit T′ (eqb-false _ _ t); yes = λ t. rows-open one D B′ unit T′ (eqb-true _ _ t) }

@@ -1,7 +1,6 @@
-use mathlib.Core.Path.{_≡_, refl, _∙_}
+use mathlib.Core.Path.{_≡_, refl}
 use Prim.Native.Nat.{_≤_}
 use native.Mathlib.Omega.{arith}
-use borrow.Author.Needs.{needs}
 use lib.ListN.{length, length-set}
 use Rattle.binomial.specs.Triangle.{rows}
 use Rattle.binomial.proofs.Pascal.{Stepped, stepped-none, stepped-more, stepped-all, sum-fits}

@@ -7,7 +7,7 @@ use borrow.Author.Tests.{not-true}
 use Rattle.algebra.specs.Polynomial.{limit, terms}
 use Rattle.right.specs.Rows.{words}
 use Rattle.right.proofs.Columns.{right-twice, room-none}
-use Rattle.pair.specs.Asking.{apart}
+use Rattle.pair.specs.Asking.{differs}
 use Rattle.pair.proofs.Forcing.{asked-root, asked-left, root-apart, report-told}
 use Rattle.pair.proofs.report.Statement.{statement}
 use Rattle.pair.proofs.report.Tie as tie
@@ -28,7 +28,7 @@ sub-t20 c = let d = c .before .before .before .before .before .before .pre .0 .d
 
 -- the root says no
 returns : tie.Need-returns
-returns c = apart (root-apart (c .before .before .before .before .before .before .pre .0) (c .before .before .root .ensures) (not-true _ (c .if1 .taken)) refl) refl
+returns c = differs (root-apart (c .before .before .before .before .before .before .pre .0) (c .before .before .root .ensures) (not-true _ (c .if1 .taken)) refl) refl
 
 upside-requires : tie.Need-upside-requires
 upside-requires c κs =
