@@ -1,7 +1,7 @@
 -- Coefficients of sums and products of lists, exact in whole numbers: what the loops of the code are held to.
 --
 --   coef-plus, coef-scaled                of a sum, of a multiple
---   coef-times                            of a product: the sum of coef p i · coef q (k - i)
+--   coef-times, coef-times-suc            of a product: the sum of coef p i · coef q (k - i); its first term apart
 --   after-end                             where g ends at x^r, g(h) ends at x^(rs), with the same coefficient
 --   after-monic, power-monic              g(h) is monic of degree r·s, and h^i of degree i·s
 use mathlib.Core.Path.{_≡_, refl, sym, ap, ap₂, _∙_}

@@ -1,7 +1,7 @@
 -- Laws of whole numbers that the polynomials rest on.
 --
 --   mod-mul-mod, mul-mod-mod        a remainder under a product goes away under the outer one
---   mul-same, pow-same              products and powers of numbers that are equal modulo m
+--   add-same, mul-same, pow-same    sums, products and powers of numbers that are equal modulo m
 --   add-cancel, number-cancel       cancelling a term, and a factor with an inverse
 --   pow-add, pow-pow, mul-pow, one-pow     powers
 --   sum-none, sum-more, sum-first, sum-split     a sum taken apart

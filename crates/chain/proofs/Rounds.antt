@@ -9,7 +9,8 @@
 --   passed-hit                       one at which there is a pair: the first split
 --   passed-all                       all up to n/2: there is no split
 --   searched-splits                  so the round tells whether f splits
---   asked-at, open-at, none-at       what is asked at a right degree, what is left where the root leaves it open, and that its no is no pair
+--   asked-at, coprime-at, open-at    what is asked at a right degree, and what is given where the root leaves a pair open
+--   none-at                          its no is no pair
 --   hit, miss                        what the answer to a split says
 use mathlib.Core.Path.{_≡_, refl, sym, ap, subst, _∙_}
 use mathlib.Core.Bool.{Bool, true, false, false≢true}

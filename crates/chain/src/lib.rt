@@ -54,15 +54,12 @@ fn first_split(f: Coefficients, n: usize, v: u32, table: &[u64; ENTRIES], m: Div
 {
     let mut rows = [0; right::WORDS];
     let mut tries = 0;
-    let mut s = 2;
-    while s <= n / 2 {
+    for s in 2..n / 2 + 1 {
         if n % s != 0 {
-            s += 1;
             continue;
         }
         tries += 1;
         if !pair::is_open(&mut rows, &f, n, n / s, s, v, table, m) {
-            s += 1;
             continue;
         }
         let a = pair::split_open(f, &rows, n, n / s, s, m);
@@ -78,7 +75,6 @@ fn first_split(f: Coefficients, n: usize, v: u32, table: &[u64; ENTRIES], m: Div
                 right,
             };
         }
-        s += 1;
     }
     Round {
         found: false,
@@ -175,7 +171,7 @@ pub fn shares(n: usize, m: u64) -> bool
     }
 }
 
-// The chain of f, which is accepted and of degree n, in an area with zeros in its places: No. 5, or the chain.
+// The chain of f, which is accepted and of degree n, in the first places of an area, of which nothing else changes: No. 5, or the chain.
 pub fn accepted(
     f: Coefficients,
     n: usize,

@@ -7,7 +7,7 @@
 --   inverse-left     s times an inverse of n is one of r
 --   below-rows                       degrees that fit are below the table's rows
 --   asked-root, asked-left           what the root and the left part are given
---   root-none        no pair at all where the root says no
+--   root-none, root-open             no pair at all where the root says no; what is given where it does not
 --   root-apart, report-told          the quick question: a no of the root, and what the digits tell
 use mathlib.Core.Path.{_≡_, refl, sym, ap, _∙_}
 use mathlib.Core.Bool.{Bool, true, false, true≢false}

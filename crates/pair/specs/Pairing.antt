@@ -8,7 +8,7 @@
 --   check-split m f r        1, 2, 3, 4; 6
 --   Splits m f r x           x answers: f split at the left degree r
 --   SplitAsked m n r s f     what a split at r and s is given: f of degree n = r·s
---   Opened m n r s f t       what is left to do where the root in t leaves a pair open
+--   Opened m n r s f t       what is given where the root in t leaves a pair open
 --   SplitAnswer m f r s x    what it answers: the pair, that there is none, or that r and m share a factor
 use mathlib.Core.Path.{_≡_}
 use mathlib.Core.Bool.{Bool, not, _&&_}
@@ -87,7 +87,7 @@ pub record Opened (m n r s : ℕ) (f t : List ℕ) : Type 0 where
   pub room : Space m t
   pub part : {h : List ℕ} → Upside s t h → RightPart m f r s h
 
--- and what it answers
+-- what a split answers past the checks: No. 5, No. 7 or the pair
 pub data SplitAnswer (m : ℕ) (f : List ℕ) (r s : ℕ) (x : Parts) : Type 0 where
   shared : (Coprime r m → ⊥) → x ≡ no-parts (refusal Neither Factor) → SplitAnswer m f r s x
   none : Coprime r m → pair.NoPair m f r s → x ≡ no-parts (refusal Neither NoPair) → SplitAnswer m f r s x

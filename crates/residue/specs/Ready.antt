@@ -7,7 +7,7 @@ use Prim.Native.Nat.{ℕ, _-_, _/_, _^_}
 use Rattle.algebra.specs.Number.{Modulus}
 use Rattle.residue.specs.declared.Divisor.{Divisor}
 
--- a data type: `omega` would read an equation's large number wherever it is in reach, and break off
+-- the largest word of 64 bits divided by m; a data type, since `omega` would read its large number wherever it is in reach
 pub data Reciprocal (m v : ℕ) : Type 0 where
   reciprocal : v ≡ (2 ^ 64 - 1) / m → Reciprocal m v
 

@@ -1,6 +1,6 @@
 // Numbers modulo m in code, for any modulus up to 2^32, prime or not.
 //
-//   Divisor, made_ready              a modulus with its reciprocal, worked out once for an operation: no later step divides by it
+//   Divisor, made_ready              a modulus with its reciprocal, worked out once for an operation: no sum or product is divided by it
 //   remainder, subtract, multiply, two_products, power     one result below m
 //   invert                           the inverse, or the greatest common factor that is in the way
 //   inner_product                    a[lo]*b[k-lo] + .. + a[hi-1]*b[k-hi+1]: exact, and reduced once at the end
@@ -18,7 +18,7 @@ ghost use Rattle.residue.specs.Residue.{InverseIs, inner, Within, stride
 // How many machine words there are: the modulus at which they run round.
 pub const MACHINE_WORDS: u64 = 0x1_0000_0000;
 
-// A modulus made ready: the number, and its reciprocal, so that nothing is divided by it.
+// A modulus made ready: the number, and its reciprocal, so that no sum or product is divided by it.
 pub struct Divisor {
     pub number: u64,
     pub reciprocal: u64,
@@ -219,7 +219,7 @@ fn added(w: Wide, p: u64) -> Wide
     }
 }
 
-// What a carry counts, 2^64, modulo m: from 1 to m.
+// What a carry counts, 2^64, modulo m: no more than m.
 fn carry(m: Divisor) -> u64
     requires { ⌜ Ready m ⌝ }
     ensures { λ r. ⌜ (r % m .number ≡ 2 ^ 64 % m .number) × (r ≤ m .number) ⌝ }

@@ -1,7 +1,7 @@
 // The right part: the coefficients of h that the leading terms of f force, highest first (document 000, Algorithm 3.4).
 //
 // h = x^s + t, and the powers of h come from those of t by the binomials. Counted from the top, T_i[k] is the coefficient of
-// x^(is-k) in t^i; then r·c_(s-k) = a_(n-k) - d with d the sum of C(r, i)·T_i[k] over i from 2 on. No entry is ever updated.
+// x^(is-k) in t^i; then r·c_(s-k) = a_(n-k) - d with d the sum of C(r, i)·T_i[k] over i from 2 on. An entry stands once its column is done.
 // Both sides are divided by r once: the binomials are kept as -C(r, i)/r, and a column ends with one sum.
 //
 // The same columns go on for two places past h: they are the r-th root of f from the top. If f = g(h), the root is h + g_(r-1)/r

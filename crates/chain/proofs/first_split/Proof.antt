@@ -11,14 +11,14 @@ use Rattle.chain.proofs.first_split.Statement.{statement}
 use Rattle.chain.proofs.first_split.Tie as tie
 
 abbrev Inv-loop : tie.InvT-loop
-Inv-loop n v table m f rows₀ tries₀ s₀ rows tries s = Passed (m .number) n f s tries × (s ≤ n / 2 + 1) × Space (m .number) rows
+Inv-loop n v table m f rows₀ tries₀ s₀ s-end rows tries s = Passed (m .number) n f s tries × (s ≤ n / 2 + 1) × Space (m .number) rows
 
 abbrev μ-loop : tie.MeasureT-loop
-μ-loop n v table m f rows₀ tries₀ s₀ rows tries s = n / 2 + 1 - s
+μ-loop n v table m f rows₀ tries₀ s₀ s-end rows tries s = s-end - s
 
 loop-holds : tie.Need-loop-holds Inv-loop μ-loop
 unfolding words terms limit
-loop-holds c = (passed-none _ _ _, omega arith, room-none (omega (arith, c .pre .0 .modulus .above-one)))
+loop-holds c = (passed-none _ _ _, omega (arith, c .pre .0 .two), room-none (omega (arith, c .pre .0 .modulus .above-one)))
 
 -- s does not divide n
 loop-again : tie.Need-loop-again Inv-loop μ-loop
@@ -66,6 +66,7 @@ first-split-spec =
     (tie.spec
     Inv-loop
     μ-loop
+    (λ c. omega arith)
     loop-holds
     (λ c. omega arith)
     (λ c. omega arith)
