@@ -3,12 +3,15 @@
 --   heads                 the constants of the digits
 --   digits-exact          where every digit is a constant, f is what they compose to with h
 --   digits-differ         and else they differ from f first, from the top, at the highest place that is no constant
---   Reaching, reaching-none, reaching-more, reaching-end     the divisions one after the other
+--   digits-join           n digits and k of their quotient are n + k
+--   digits-block          the digits of a remainder by h^k, and the quotient, are k digits and the quotient
+--   expanded-none, expanded-one, expanded-block     no digit yet, one by a division by h, k by a division by h^k
+--   expanded-asked, expanded-more     the quotient may be divided again, and gives so many digits more
+--   digits-end, digit-end     some digits, or one, end within the list
 --   Scanned, scanned-none, scanned-here, scanned-more, scanned-all    the walk over the digits, from the highest on
 --   expanded-wide, expanded-front     the digits in the list that holds them
 --   digits-report         the report of the leaf
-use mathlib.Core.Path.{_≡_, refl, sym, ap, _∙_}
-use mathlib.Core.Bool.{Bool, false}
+use mathlib.Core.Path.{_≡_, refl, sym, ap, _∙_, subst}
 use mathlib.Core.Logic.{⊎-elim}
 use mathlib.Core.List.{List, [], _∷_, _++_, append-assoc}
 use Prim.Native.Nat.{ℕ, zero, suc, _+_, _*_, _-_, _%_, _≤_, _<_}
@@ -16,16 +19,17 @@ use native.Mathlib.Nat as N
 use native.Mathlib.Omega.{arith}
 use native.Mathlib.Decide.{decLt}
 use lib.ListN.{length, take, drop, length-take, length-drop, length-append, List·getD-eq-default}
-use lib.Seq.{take-all, take-add, take-at, drop-at, drop-drop, getD-take, getD-drop, length-take-le}
-use Rattle.algebra.specs.Polynomial.{coef, plus, times, after, degree, Same, Monic}
+use lib.Seq.{take-all, take-add, take-at, take-append-le, drop-at, drop-append-le, drop-drop, getD-take, getD-drop, length-take-le}
+use Rattle.algebra.specs.Polynomial.{coef, plus, times, power, after, degree, Same, Monic}
 use Rattle.algebra.specs.Pair.{Differs}
-use Rattle.algebra.proofs.Polynomials.{_⨾_, same-refl, same-sym, plus-same, times-same, constant-after}
+use Rattle.algebra.proofs.Polynomials.{_⨾_, same-refl, same-sym, plus-same, plus-assoc, times-same, times-comm, times-assoc, times-plus, times-one, constant-after}
+use Rattle.algebra.proofs.Coefficients.{after-end}
 use Rattle.algebra.proofs.Agreement.{forced-left-exists, times-differs, plus-agree, plus-differs}
 use Rattle.algebra.proofs.Report.{forced-differs}
 use Rattle.algebra.proofs.Highest.{degree-below, degree-above, degree-leads}
 use Rattle.polynomial.proofs.Below.{take-below, join-below}
 use Rattle.left.specs.Left.{LeftAsked}
-use Rattle.left.specs.Division.{DivisionAsked, Divided, Digits}
+use Rattle.left.specs.Division.{DivisionAsked, Divided, Raised}
 use Rattle.left.proofs.Found.{asked-same, asked-long}
 use Rattle.left.specs.Report.{from-digits, Expanded, Constants, HighestAt, nowhere, place, LeftReport}
 use Rattle.left.specs.Report as report
@@ -33,6 +37,11 @@ use Rattle.left.specs.Report as report
 unfoldable pub heads : ℕ → ℕ → List ℕ → List ℕ
 heads s zero q = coef q 0 ∷ []
 heads s (suc n) q = coef q 0 ∷ heads s n (drop s q)
+
+heads-length : (s n : ℕ) (q : List ℕ) → length (heads s n q) ≡ suc n
+unfolding heads
+heads-length s zero q = refl
+heads-length s (suc n) q = ap suc (heads-length s n (drop s q))
 
 -- the digits after the first
 later : (s : ℕ) (q : List ℕ) (i j : ℕ) → coef (drop s q) (i * s + j) ≡ coef q (suc i * s + j)
@@ -111,25 +120,18 @@ module _ {m s : ℕ} {h : List ℕ} (pos : 0 < m) (sp : 0 < s) (mh : Monic m s h
       (times-differs m pos _ _ mh (digits-differ n (drop s q) (omega (arith, length-drop s q)) (λ k. rw (getD-drop s q k 0) (small (s + k))) i j a b (λ w. ne (sym (later s q i j) ∙ w))
       (λ k c d. later s q i k ∙ z k c d) (λ d k c f g. later s q d k ∙ y (suc d) k (omega arith) f g))))
 
--- the digits below place `at` are found, and what is above it is the quotient
-pub record Reaching (m : ℕ) (h : List ℕ) (s : ℕ) (p₀ : List ℕ) (at : ℕ) (p : List ℕ) : Type 0 where
-  pub number : ℕ
-  pub place : at ≡ number * s
-  pub inside : at < length p
-  pub long : length p ≡ length p₀
-  pub below : (i : ℕ) → coef p i < m
-  pub whole : Same m p₀ (from-digits h s number p)
+-- k digits from the i-th on end where r of them do, or before
+pub digits-end : (i k r s : ℕ) → i + k ≤ r → i * s + k * s ≤ r * s
+digits-end i k r s l =
+    let e : i * s + k * s ≡ (i + k) * s = omega arith in
+    rw e (N.mul-le-mul-right s l)
 
-pub reaching-none : {m s : ℕ} {h p : List ℕ} → DivisionAsked m s h p → Reaching m h s p 0 p
+-- n digits, and then k of their quotient
+digits-join : {m : ℕ} → 0 < m → (h : List ℕ) (s n k : ℕ) (p q : List ℕ) → n * s ≤ length p → Same m (drop (n * s) p) (from-digits h s k q)
+    → Same m (from-digits h s n p) (from-digits h s (n + k) (take (n * s) p ++ q))
 unfolding from-digits
-reaching-none {s = s} {p = p} d = record { number = 0; place = sym (N.zero-mul s); inside = d .some; long = refl; below = d .below; whole = same-refl p }
-
--- one digit more
-digits-step : {m : ℕ} → 0 < m → (h : List ℕ) (s n : ℕ) (p q : List ℕ) → n * s ≤ length p → Same m (drop (n * s) p) (plus (take s q) (times h (drop s q)))
-    → Same m (from-digits h s n p) (from-digits h s (suc n) (take (n * s) p ++ q))
-unfolding from-digits
-digits-step pos h s zero p q l e = rw (N.zero-mul s) (rw (N.zero-mul s) at e)
-digits-step {m} pos h s (suc n) p q l e = rw (front, back) (plus-same m pos (same-refl (take s p)) (times-same m pos (same-refl h) (digits-step pos h s n (drop s p) q (omega (arith, length-drop s p)) (rw (drop-drop (n * s) s p, ← more) e))))
+digits-join pos h s zero k p q l e = rw (N.zero-mul s, N.zero-add k) (rw (N.zero-mul s) at e)
+digits-join {m} pos h s (suc n) k p q l e = rw (N.suc-add n k, front, back) (plus-same m pos (same-refl (take s p)) (times-same m pos (same-refl h) (digits-join pos h s n k (drop s p) q (omega (arith, length-drop s p)) (rw (drop-drop (n * s) s p, ← more) e))))
   where
     more : suc n * s ≡ s + n * s
     more = omega arith
@@ -146,36 +148,70 @@ digits-step {m} pos h s (suc n) p q l e = rw (front, back) (plus-same m pos (sam
     back : drop s (take (suc n * s) p ++ q) ≡ take (n * s) (drop s p) ++ q
     back = ap (drop s) parts ∙ drop-at (take s p) _ s wide
 
-module _ {m s at : ℕ} {h p₀ p : List ℕ} (d : DivisionAsked m s h p₀) (c : Reaching m h s p₀ at p) where
-  pub reaching-asked : DivisionAsked m s h (drop at p)
-  reaching-asked =
+-- the digits of a remainder by h^(j+1), and the quotient
+digits-block : {m : ℕ} → 0 < m → (h : List ℕ) (s j : ℕ) (r q : List ℕ) → length r ≡ suc j * s → Same m (plus (from-digits h s j r) (times (power h (suc j)) q)) (from-digits h s (suc j) (r ++ q))
+unfolding from-digits power
+digits-block {m} pos h s zero r q l =
+    let e : length r ≡ s = omega arith in
+    rw (take-at r q s e, drop-at r q s e) (plus-same m pos (same-refl r) (times-same m pos (times-comm m pos h (1 ∷ []) ⨾ times-one m pos h) (same-refl q)))
+digits-block {m} pos h s (suc j) r q l =
+    let inside : s ≤ length r = omega arith in
+    rw (take-append-le s r q inside, drop-append-le s r q inside)
+    (plus-assoc m pos (take s r) _ _
+    ⨾ plus-same m pos (same-refl (take s r)) (plus-same m pos (same-refl _) (times-assoc m pos h (power h (suc j)) q) ⨾ same-sym (times-plus m pos h _ _) ⨾ times-same m pos (same-refl h) (digits-block pos h s j (drop s r) q (omega (arith, length-drop s r)))))
+
+-- before the first digit
+pub expanded-none : {m s : ℕ} {h p : List ℕ} → DivisionAsked m s h p → Expanded m h s 0 p p
+unfolding from-digits
+expanded-none {p = p} d = record { long = refl; below = d .below; whole = same-refl p }
+
+-- one digit
+pub expanded-one : {m s : ℕ} {h p q : List ℕ} → Divided m h s p q → Expanded m h s 1 p q
+unfolding from-digits
+expanded-one v = record { long = v .long; below = v .below; whole = v .whole }
+
+-- k digits at once
+pub expanded-block : {m s w k : ℕ} {h b p q r : List ℕ} → DivisionAsked m s h p → Raised m h s k b → 0 < k → w ≡ k * s → w ≤ length p → Divided m b w p q
+    → Expanded m h s (k - 1) (take w q) r → Expanded m h s k p (r ++ drop w q)
+expanded-block {m} {s} {w} {k} {h} {b} {p} {q} {r} d raised lk ew l v x =
+    record {
+      long = length-append r (drop w q) ∙ rw (wide, length-drop w q, v .long) (omega arith);
+      below = join-below r (drop w q) (x .below) (λ i. rw (getD-drop w q i 0) (v .below (w + i)));
+      whole = v .whole ⨾ plus-same m pos (x .whole) (times-same m pos (raised .same) (same-refl _)) ⨾ subst (λ (n : ℕ). Same m (plus (from-digits h s (k - 1) r) (times (power h n) (drop w q))) (from-digits h s n (r ++ drop w q))) (sym e) (digits-block pos h s (k - 1) r (drop w q) (wide ∙ ew ∙ ap (λ (n : ℕ). n * s) e));
+    }
+  where
+    pos : 0 < m
+    pos = omega (arith, d .modulus .above-one)
+
+    e : k ≡ suc (k - 1)
+    e = omega arith
+
+    wide : length r ≡ w
+    wide = x .long ∙ length-take-le w q (rw (v .long) l)
+
+module _ {m s n : ℕ} {h p₀ p : List ℕ} (d : DivisionAsked m s h p₀) (c : Expanded m h s n p₀ p) where
+  -- the quotient may be divided again
+  pub expanded-asked : n * s < length p → DivisionAsked m s h (drop (n * s) p)
+  expanded-asked l =
       record {
         modulus = d .modulus;
         right = d .right;
         above-zero = d .above-zero;
-        below = λ i. rw (getD-drop at p i 0) (c .below (at + i));
-        some = omega (arith, length-drop at p, c .inside);
-        inside = omega (arith, length-drop at p, c .long, d .inside);
+        below = λ i. rw (getD-drop (n * s) p i 0) (c .below (n * s + i));
+        some = omega (arith, length-drop (n * s) p);
+        inside = omega (arith, length-drop (n * s) p, c .long, d .inside);
       }
 
-  pub reaching-more : {q : List ℕ} → at + s < length p → Divided m h s (drop at p) q → Reaching m h s p₀ (at + s) (take at p ++ q)
-  reaching-more {q} l v = record {
-    number = suc (c .number);
-    place = omega (arith, c .place);
-    inside = rw long l;
-    long = long ∙ c .long;
-    below = join-below (take at p) q (take-below pos at p (λ i _. c .below i)) (v .below);
-    whole = c .whole ⨾ rw (c .place) (digits-step pos h s (c .number) p q (omega (arith, c .place, c .inside)) (rw (c .place) at (v .whole)));
+  -- and gives k digits more
+  pub expanded-more : {k : ℕ} {q : List ℕ} → n * s ≤ length p → Expanded m h s k (drop (n * s) p) q → Expanded m h s (n + k) p₀ (take (n * s) p ++ q)
+  expanded-more {k} {q} l x = record {
+    long = length-append (take (n * s) p) q ∙ rw (length-take-le (n * s) p l, x .long, length-drop (n * s) p) (omega (arith, c .long));
+    below = join-below (take (n * s) p) q (take-below pos (n * s) p (λ i _. c .below i)) (x .below);
+    whole = c .whole ⨾ digits-join pos h s n k p q l (x .whole);
   }
     where
       pos : 0 < m
       pos = omega (arith, d .modulus .above-one)
-
-      long : length (take at p ++ q) ≡ length p
-      long = length-append (take at p) q ∙ rw (length-take-le at p (N.le-of-lt (c .inside)), v .long, length-drop at p) (omega (arith, c .inside))
-
-  pub reaching-end : length p ≤ at + s → Expanded m h s p₀ p
-  reaching-end l = record { number = c .number; below = c .below; long = c .long; short = omega (arith, c .place); whole = c .whole }
 
 -- the digits from the i-th on are constants
 unfoldable pub Scanned : ℕ → List ℕ → ℕ → Type 0
@@ -187,9 +223,7 @@ scanned-none r s q e d l a b c = List·getD-eq-default q 0 (omega (arith, N.mul-
 
 -- digit i - 1 ends where digit i begins
 pub digit-end : (i r s : ℕ) → ¬ (i ≡ 0) → i ≤ r → (i - 1) * s + s ≤ r * s
-digit-end i r s a b =
-    let e : (i - 1) * s + s ≡ (i - 1 + 1) * s = omega arith in
-    rw e (N.mul-le-mul-right s (omega arith))
+digit-end i r s a b = omega (arith, digits-end (i - 1) 1 r s (omega arith))
 
 -- digit i, as the code lends it
 module _ {s at : ℕ} (i w : ℕ) (q : List ℕ) (ea : at ≡ i * s) (ew : w ≡ s) (inside : at + s ≤ length q) (sp : 0 < s) where
@@ -220,29 +254,38 @@ pub scanned-all : (s : ℕ) (q : List ℕ) → Scanned s q 0 → HighestAt s q 0
 unfolding Scanned
 scanned-all s q z = nowhere (λ i j a b. z i j (omega arith) a b) refl
 
--- the digits of f, with what lies above x^n behind them
-module _ {m n r s : ℕ} {f h q : List ℕ} (asked : LeftAsked m n r s f h) (x : Expanded m h s (take (n + 1) f) q) where
+-- the r digits of f, with what lies above x^n behind them
+module _ {m n r s : ℕ} {f h q : List ℕ} (asked : LeftAsked m n r s f h) (x : Expanded m h s r (take (n + 1) f) q) where
   pub expanded-wide : length q ≡ n + 1
   expanded-wide = x .long ∙ asked-long asked ∙ ap (λ (k : ℕ). k + 1) (asked .degrees .product)
 
   pub expanded-front : take (n + 1) (q ++ drop (n + 1) f) ≡ q
   expanded-front = take-at q (drop (n + 1) f) (n + 1) expanded-wide
 
--- all digits of f, of which one is no constant
-pub digits-report : {m n r s k : ℕ} {f h p q : List ℕ} {t : Bool} (asked : LeftAsked m n r s f h) → Digits m h s (take (n + 1) f) p t → t ≡ false → Expanded m h s (take (n + 1) f) q → HighestAt s q k → LeftReport m f r s h k
-digits-report {m} {n} {r} {s} {k} {f} {h} {p} {q} asked d v x (nowhere z e) = absurd (d .no v (heads s (x .number) q) (x .whole ⨾ digits-exact pos (omega (arith, asked .degrees .two-right)) (asked .right .monic) (x .number) q (x .short) z))
-  where
-    pos : 0 < m
-    pos = omega (arith, asked .modulus .above-one)
-digits-report {m} {n} {r} {s} {k} {f} {h} {p} {q} asked d v x (place i j a b e ne z y) =
-    let (g, F) = forced-left-exists m pos {r = r} {s = s} {f = f} {h = h} sp (asked .right .monic) (rw (asked .degrees .product) (asked .whole .monic)) in
-    rw e (report.differs F (forced-differs pos i _ sp (asked .right .monic) F (omega arith) (omega arith) differs))
-  where
-    pos : 0 < m
-    pos = omega (arith, asked .modulus .above-one)
+  pos : 0 < m
+  pos = omega (arith, asked .modulus .above-one)
 
-    sp : 0 < s
-    sp = omega (arith, asked .degrees .two-right)
+  sp : 0 < s
+  sp = omega (arith, asked .degrees .two-right)
 
-    differs : Differs m f (after (heads s (x .number) q) h) (i * s + j)
-    differs = differs-same (same-sym (x .whole) ⨾ asked-same asked) (same-refl _) (digits-differ pos sp (asked .right .monic) (x .number) q (x .short) (x .below) i j a b ne z y)
+  short : length q ≤ r * s + s
+  short = omega (arith, expanded-wide, asked .degrees .product, sp)
+
+  -- f, by its digits
+  from : Same m (from-digits h s r q) f
+  from = same-sym (x .whole) ⨾ asked-same asked
+
+  -- what composes to f is monic, as f is
+  heads-monic : Same m f (after (heads s r q) h) → Monic m r (heads s r q)
+  heads-monic w = record { top = sym (after-end m pos (heads s r q) sp (asked .right .monic) above .0) ∙ sym (w .at (r * s)) ∙ rw (asked .degrees .product) (asked .whole .monic .top); above = above }
+    where
+      above : (i : ℕ) → r < i → coef (heads s r q) i % m ≡ 0 % m
+      above i l = ap (λ (y : ℕ). y % m) (List·getD-eq-default (heads s r q) 0 (omega (arith, heads-length s r q)))
+
+  pub digits-report : {k : ℕ} → HighestAt s q k → LeftReport m f r s h k
+  digits-report (nowhere z e) =
+      let w : Same m f (after (heads s r q) h) = same-sym from ⨾ digits-exact pos sp (asked .right .monic) r q short z in
+      report.composes (heads-monic w) w e
+  digits-report (place i j a b e ne z y) =
+      let (g, F) = forced-left-exists m pos {r = r} {s = s} {f = f} {h = h} sp (asked .right .monic) (rw (asked .degrees .product) (asked .whole .monic)) in
+      rw e (report.differs F (forced-differs pos i _ sp (asked .right .monic) F (omega arith) (omega arith) (differs-same from (same-refl _) (digits-differ pos sp (asked .right .monic) r q short (x .below) i j a b ne z y))))

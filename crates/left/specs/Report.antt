@@ -1,13 +1,13 @@
 -- All digits of a polynomial in powers of h, and the highest of them that is no constant (request No. 7).
 --
 --   from-digits h s n q      the polynomial whose lowest n digits are q's first places, s at a time, and whose quotient stands above
---   Expanded m h s p q       q has all digits of p
+--   Expanded m h s n p q     q has the lowest n digits of p, and above them the quotient
 --   Constants s q            every digit is a constant
 --   HighestAt s q k          k is the highest place with a number that is no digit's constant, and 0 if there is none
 --   LeftReport m f r s h k   k is the highest power at which g(h) and f differ for the forced left part g, and 0 if none does
 use mathlib.Core.Path.{_≡_}
 use mathlib.Core.List.{List}
-use Prim.Native.Nat.{ℕ, zero, suc, _+_, _*_, _≤_, _<_}
+use Prim.Native.Nat.{ℕ, zero, suc, _+_, _*_, _<_}
 use lib.ListN.{length, take, drop}
 use Rattle.algebra.specs.Polynomial.{coef, plus, times, after, Same, Monic}
 use Rattle.algebra.specs.Pair.{ForcedLeft, Differs}
@@ -17,13 +17,11 @@ unfoldable pub from-digits : List ℕ → ℕ → ℕ → List ℕ → List ℕ
 from-digits h s zero q = q
 from-digits h s (suc n) q = plus (take s q) (times h (from-digits h s n (drop s q)))
 
--- n digits and a quotient that is one digit more make p
-pub record Expanded (m : ℕ) (h : List ℕ) (s : ℕ) (p q : List ℕ) : Type 0 where
-  pub number : ℕ
-  pub below : (i : ℕ) → coef q i < m
+-- n digits and the quotient make p
+pub record Expanded (m : ℕ) (h : List ℕ) (s n : ℕ) (p q : List ℕ) : Type 0 where
   pub long : length q ≡ length p
-  pub short : length q ≤ number * s + s
-  pub whole : Same m p (from-digits h s number q)
+  pub below : (i : ℕ) → coef q i < m
+  pub whole : Same m p (from-digits h s n q)
 
 -- nothing stands at place j of any digit but at place 0
 abbrev pub Constants : ℕ → List ℕ → Type 0

@@ -114,8 +114,8 @@ fn raise(b: &mut [u32], h: &[u32], k: usize, s: usize, m: Divisor)
     }
 }
 
-// How many of the r digits after the first are taken at once: many make h^k longer, few make more divisions that wait for each
-// other. The steps are measured ones (bench/README.md).
+// How many of r digits are taken at once: many make h^k longer, few make more divisions that wait for each other. The steps are
+// measured ones (bench/README.md).
 fn at_once(r: usize) -> usize
     requires { ⌜ 0 < r ⌝ }
     ensures { λ k. ⌜ (0 < k) × (k ≤ r) ⌝ }
@@ -183,16 +183,40 @@ pub fn left_part(
     }
 }
 
-// All digits of p, constants or not.
-fn all_digits(p: &mut [u32], h: &[u32], s: usize, m: Divisor)
-    requires { ⌜ DivisionAsked (m .number) s (now h) (now p) × Ready m ⌝ }
-    ensures { λ _. ⌜ Expanded (m .number) (now (h .entry)) s (now (p .entry)) (now (p .exit)) ⌝ }
+// The lowest n digits of p, constants or not, one by one; above them the quotient.
+fn each_digit(p: &mut [u32], h: &[u32], n: usize, s: usize, m: Divisor)
+    requires { ⌜ DivisionAsked (m .number) s (now h) (now p) × (n * s ≤ length (now p)) × Ready m ⌝ }
+    ensures { λ _. ⌜ Expanded (m .number) (now (h .entry)) s n (now (p .entry)) (now (p .exit)) ⌝ }
 {
-    let mut at = 0;
-    while s < p.len() - at {
+    for i in 0..n {
+        let at = i * s;
         divide(&mut p[at..], h, s, m);
-        at += s;
     }
+}
+
+// The lowest k digits of p, constants or not, at once: the remainder by b = h^k has them, and k - 1 divisions tell them apart.
+fn digits_at_once(p: &mut [u32], h: &[u32], b: &[u32], k: usize, s: usize, m: Divisor)
+    requires { ⌜ DivisionAsked (m .number) s (now h) (now p) × Raised (m .number) (now h) s k (now b) × (0 < k) × (k * s ≤ length (now p)) × Ready m ⌝ }
+    ensures { λ _. ⌜ Expanded (m .number) (now (h .entry)) s k (now (p .entry)) (now (p .exit)) ⌝ }
+{
+    let w = k * s;
+    divide(p, b, w, m);
+    each_digit(&mut p[..w], h, k - 1, s, m);
+}
+
+// The lowest r digits of p, constants or not: k at once by b = h^k as long as there are k, and the others one by one.
+fn all_digits(p: &mut [u32], h: &[u32], b: &[u32], k: usize, r: usize, s: usize, m: Divisor)
+    requires { ⌜ DivisionAsked (m .number) s (now h) (now p) × Raised (m .number) (now h) s k (now b) × (0 < k) × (r * s < length (now p)) × Ready m ⌝ }
+    ensures { λ _. ⌜ Expanded (m .number) (now (h .entry)) s r (now (p .entry)) (now (p .exit)) ⌝ }
+{
+    let mut i = 0;
+    while k <= r - i {
+        let at = i * s;
+        digits_at_once(&mut p[at..], h, b, k, s, m);
+        i += k;
+    }
+    let at = i * s;
+    each_digit(&mut p[at..], h, r - i, s, m);
 }
 
 // The highest place of the digits in p that has a number and is no digit's constant: the degree of the highest digit that is none.
@@ -213,17 +237,16 @@ fn highest(p: &[u32], r: usize, s: usize) -> usize
     0
 }
 
-// The highest power at which f, of degree n = r * s, and g(h) differ for the forced left part g; 0 if f = g(h). The digits up to the
-// first that is no constant are taken first, as for a left part: all of them are wanted for a report alone.
+// The highest power at which f, of degree n = r * s, and g(h) differ for the forced left part g; 0 if f = g(h). No digit ends it
+// early: the highest that is no constant is wanted, and it is found last.
 pub fn report(f: Coefficients, h: Coefficients, n: usize, r: usize, s: usize, m: Divisor) -> usize
     requires { ⌜ LeftAsked (m .number) n r s f h × Ready m ⌝ }
     ensures { λ k. ⌜ LeftReport (m .number) f r s h k ⌝ }
 {
+    let k = at_once(r);
+    let mut b = h;
+    raise(&mut b, &h, k, s, m);
     let mut a = f;
-    if expand(&mut a[..n + 1], &h, r, s, m) {
-        return 0;
-    }
-    let mut b = f;
-    all_digits(&mut b[..n + 1], &h, s, m);
-    highest(&b[..n + 1], r, s)
+    all_digits(&mut a[..n + 1], &h, &b, k, r, s, m);
+    highest(&a[..n + 1], r, s)
 }
