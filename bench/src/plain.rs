@@ -161,10 +161,18 @@ pub fn invert(a: u64, m: u64) -> Option<u32> {
     (x == 1).then_some(s as u32)
 }
 
+/// How many rows of binomials there are: no left degree reaches it.
+pub const ROWS: usize = 64;
+
+/// Where row j begins in the table.
+fn start(j: usize) -> usize {
+    j * (j + 1) / 2
+}
+
 pub fn binomials() -> Vec<u64> {
-    let mut table = vec![0u64; 64 * 65 / 2];
-    for j in 0..64usize {
-        let row = j * (j + 1) / 2;
+    let mut table = vec![0u64; start(ROWS)];
+    for j in 0..ROWS {
+        let row = start(j);
         for i in 0..=j {
             table[row + i] = if i == 0 || i == j {
                 1
@@ -174,6 +182,18 @@ pub fn binomials() -> Vec<u64> {
         }
     }
     table
+}
+
+/// Row r as far as the root at r and s wants it, by Pascal's rule: in place, from the right.
+fn row_for(r: usize, s: usize) -> [u64; ROWS] {
+    let mut b = [0; ROWS];
+    b[0] = 1;
+    for _ in 0..r {
+        for i in (1..=r.min(s + 1)).rev() {
+            b[i] += b[i - 1];
+        }
+    }
+    b
 }
 
 pub fn degree(f: &[u32]) -> usize {
@@ -247,7 +267,7 @@ fn raise<M: Modulus>(b: &mut [u32], h: &[u32], k: usize, s: usize, m: M) {
     }
 }
 
-/// How many of the r digits after the first are taken at once.
+/// How many of r digits are taken at once.
 fn at_once(r: usize) -> usize {
     match r {
         0..5 => 1,
@@ -288,17 +308,17 @@ fn left_part<M: Modulus>(
     expand(&mut a[..n + 1], h, r, s, m).then(|| constants(&a, r, s))
 }
 
-/// The forced pair of f at the left degree r and the right degree s, by the inverse u of r. Nothing is divided where the root of f
-/// already says no.
+/// The forced pair of f at the left degree r and the right degree s, by the inverse u of r and row r of the binomials. Nothing is
+/// divided where the root of f already says no.
 fn forced<M: Modulus>(
     f: &Polynomial,
     [n, r, s]: [usize; 3],
     u: u32,
-    table: &[u64],
+    row: &[u64],
     m: M,
 ) -> Option<(Polynomial, Polynomial)> {
     let mut root = Root::EMPTY;
-    if !root.find(f, [n, r, s], u, table, m) {
+    if !root.find(f, [n, r, s], u, row, m) {
         return None;
     }
     let h = root.right_part(s);
@@ -314,8 +334,8 @@ pub fn split_by<M: Modulus>(
     table: &[u64],
     m: M,
 ) -> Option<(Polynomial, Polynomial)> {
-    let u = multiply(v, s as u32, m);
-    forced(f, [n, n / s, s], u, table, m)
+    let (r, u) = (n / s, multiply(v, s as u32, m));
+    forced(f, [n, r, s], u, &table[start(r)..], m)
 }
 
 /// The degree of a polynomial that the checks 1 to 4 accept, or the number of the refusal.
@@ -343,22 +363,37 @@ fn fitting(m: u32, f: &Polynomial, r: usize) -> Option<[usize; 3]> {
     (2 <= r && n % r == 0 && 2 <= n / r).then(|| [n, r, n / r])
 }
 
-pub fn split(m: u32, f: &Polynomial, r: usize, table: &[u64]) -> Option<(Polynomial, Polynomial)> {
+pub fn split(m: u32, f: &Polynomial, r: usize) -> Option<(Polynomial, Polynomial)> {
     let degrees = fitting(m, f, r)?;
     let u = invert(r as u64, modulus(m))?;
+    let row = row_for(r, degrees[2]);
     match m {
-        0 => forced(f, degrees, u, table, Words),
-        _ => forced(f, degrees, u, table, Below(m as u64)),
+        0 => forced(f, degrees, u, &row, Words),
+        _ => forced(f, degrees, u, &row, Below(m as u64)),
     }
 }
 
-/// All digits of p in powers of h, constants or not: nothing ends it early.
-fn expand_whole<M: Modulus>(p: &mut [u32], h: &Polynomial, s: usize, m: M) {
+/// All digits of p, constants or not, one by one.
+fn each_digit<M: Modulus>(p: &mut [u32], h: &[u32], s: usize, m: M) {
     let mut at = 0;
     while s < p.len() - at {
         divide(&mut p[at..], h, s, m);
         at += s;
     }
+}
+
+/// All digits of p, of degree r * s, in powers of h, constants or not, some at once: none ends it early.
+fn all_digits<M: Modulus>(p: &mut [u32], h: &Polynomial, r: usize, s: usize, m: M) {
+    let k = at_once(r);
+    let mut b = *h;
+    raise(&mut b, h, k, s, m);
+    let (w, mut at) = (k * s, 0);
+    while w < p.len() - at {
+        divide(&mut p[at..], &b, w, m);
+        each_digit(&mut p[at..at + w], h, s, m);
+        at += w;
+    }
+    each_digit(&mut p[at..], h, s, m);
 }
 
 /// The highest power at which f and its composed forced pair differ, or 0. Where the root of f says no, it is that of the root's
@@ -367,26 +402,28 @@ fn difference<M: Modulus>(
     f: &Polynomial,
     [n, r, s]: [usize; 3],
     u: u32,
-    table: &[u64],
+    row: &[u64],
     m: M,
 ) -> usize {
     let mut root = Root::EMPTY;
-    if !root.find(f, [n, r, s], u, table, m) {
+    if !root.find(f, [n, r, s], u, row, m) {
         return n - s - 1;
     }
     let mut a = *f;
-    expand_whole(&mut a[..n + 1], &root.right_part(s), s, m);
-    let differs = |&p: &usize| p % s != 0 && a[p] != 0;
-    (0..=n).rev().find(differs).unwrap_or(0)
+    all_digits(&mut a[..n + 1], &root.right_part(s), r, s, m);
+    let mut degrees = a[..n].chunks(s).map(degree).enumerate().rev();
+    let highest = degrees.find(|&(_, d)| d != 0);
+    highest.map_or(0, |(i, d)| i * s + d)
 }
 
 /// The quick answer: 1 for a pair or 0, and the highest power that differs. Nothing if it is refused.
-pub fn quick(m: u32, f: &Polynomial, r: usize, table: &[u64]) -> Option<[usize; 2]> {
+pub fn quick(m: u32, f: &Polynomial, r: usize) -> Option<[usize; 2]> {
     let degrees = fitting(m, f, r)?;
     let u = invert(r as u64, modulus(m))?;
+    let row = row_for(r, degrees[2]);
     let p = match m {
-        0 => difference(f, degrees, u, table, Words),
-        _ => difference(f, degrees, u, table, Below(m as u64)),
+        0 => difference(f, degrees, u, &row, Words),
+        _ => difference(f, degrees, u, &row, Below(m as u64)),
     };
     Some([usize::from(p == 0), p])
 }

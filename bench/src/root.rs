@@ -2,7 +2,7 @@
 //! that have no pair. The columns and sums are the desk's; where plain Rust has `%` there, the desk multiplies by a reciprocal of
 //! the modulus.
 
-use crate::plain::{multiply, strided_product, Modulus, Polynomial, TERMS};
+use crate::plain::{multiply, strided_product, Modulus, Polynomial, ROWS, TERMS};
 
 /// Room for the rows of any degrees: min(r, s + 1) rows of s + 2 places.
 const WORDS: usize = 160;
@@ -13,12 +13,11 @@ pub struct Root([u32; WORDS]);
 
 /// Row r of the binomials as far as the place top, kept as -C(r, i)/r: so a column's last sum needs no other multiplication.
 /// In place 1 is the inverse u of r itself.
-fn binomials<M: Modulus>(r: usize, top: usize, u: u32, table: &[u64], m: M) -> [u32; 64] {
-    let mut b = [0; 64];
+fn binomials<M: Modulus>(row: &[u64], top: usize, u: u32, m: M) -> [u32; ROWS] {
+    let mut b = [0; ROWS];
     b[1] = u;
     for i in 2..=top {
-        let c = m.residue(table[r * (r + 1) / 2 + i]);
-        b[i] = m.subtract(0, multiply(c, u, m));
+        b[i] = m.subtract(0, multiply(m.residue(row[i]), u, m));
     }
     b
 }
@@ -37,18 +36,18 @@ impl Root {
         }
     }
 
-    /// Works out the places 1 to s + 1 of the root of f, of degree n = r * s, by the inverse u of r. Whether a pair is still open:
-    /// if f = g(h), place s + 1 is 0.
+    /// Works out the places 1 to s + 1 of the root of f, of degree n = r * s, by the inverse u of r and row r of the binomials.
+    /// Whether a pair is still open: if f = g(h), place s + 1 is 0.
     pub fn find<M: Modulus>(
         &mut self,
         f: &Polynomial,
         [n, r, s]: [usize; 3],
         u: u32,
-        table: &[u64],
+        row: &[u64],
         m: M,
     ) -> bool {
         let w = s + 2;
-        let b = binomials(r, r.min(s + 1), u, table, m);
+        let b = binomials(row, r.min(s + 1), u, m);
         for k in 1..w {
             let last = r.min(k);
             self.column(w, k, last - 1, m);

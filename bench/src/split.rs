@@ -1,5 +1,5 @@
 use crate::desk::{desk_compose, desk_split, Quick, Split};
-use crate::plain::{binomials, degree, modulus, split, Polynomial, TERMS};
+use crate::plain::{degree, modulus, split, Polynomial, TERMS};
 use crate::timing::{at, beside, Random};
 use std::hint::black_box;
 
@@ -14,9 +14,16 @@ pub struct Input {
 
 impl Input {
     pub fn label(&self, operation: &str) -> String {
+        match self.right {
+            Some(_) => self.label_with(operation, "a pair"),
+            None => self.label_with(operation, "no pair"),
+        }
+    }
+
+    /// Where more is to be said of the answer.
+    pub fn label_with(&self, operation: &str, answer: &str) -> String {
         let (n, r, end) = (degree(&self.f), self.r, at(self.m));
-        let pair = if self.right.is_some() { "a" } else { "no" };
-        format!("{operation}, degree {n} at r = {r}, {pair} pair{end}")
+        format!("{operation}, degree {n} at r = {r}, {answer}{end}")
     }
 
     /// A sum over what `split` answers: the desk's or another library's.
@@ -92,13 +99,12 @@ pub fn inputs() -> Vec<Input> {
 }
 
 pub fn run() {
-    let table = binomials();
     for input in inputs() {
         beside(
             &input.label("split"),
             20,
             &mut |_| input.split(desk_split),
-            &mut |_| match split(input.m, black_box(&input.f), input.r, black_box(&table)) {
+            &mut |_| match split(input.m, black_box(&input.f), input.r) {
                 Some((g, h)) => sum(&g, &h),
                 None => 0,
             },

@@ -20,7 +20,7 @@ use crate::residue::{add, multiply, shares_factor};
 use crate::series::power;
 
 /// Small ones, powers of 2 and other composites, and large primes.
-const MODULI: [Modulus; 12] = [
+pub const MODULI: [Modulus; 12] = [
     Modulus::of_word(2),
     Modulus::of_word(3),
     Modulus::of_word(4),
@@ -42,10 +42,10 @@ pub fn moduli(_r: usize) -> Vec<Modulus> {
     MODULI.to_vec()
 }
 
-/// Those modulo which r has an inverse.
-pub fn moduli_inverting(r: usize) -> Vec<Modulus> {
+/// Those of the moduli modulo which r has an inverse.
+pub fn moduli_inverting(r: usize, moduli: &[Modulus]) -> Vec<Modulus> {
     let shares = |m: &Modulus| shares_factor(r as u64, *m);
-    MODULI.into_iter().filter(|m| !shares(m)).collect()
+    moduli.iter().copied().filter(|m| !shares(m)).collect()
 }
 
 /// What of f is another than in g(h).

@@ -8,6 +8,7 @@
 --   expanded-none, expanded-one, expanded-block     no digit yet, one by a division by h, k by a division by h^k
 --   expanded-asked, expanded-more     the quotient may be divided again, and gives so many digits more
 --   digits-end, digit-end     some digits, or one, end within the list
+--   digit-below           a digit's degree is below s
 --   Scanned, scanned-none, scanned-here, scanned-more, scanned-all    the walk over the digits, from the highest on
 --   expanded-wide, expanded-front     the digits in the list that holds them
 --   digits-report         the report of the leaf

@@ -2,6 +2,8 @@
 // since its r_i = q_i(0) wants h(0) = 0): the remainders are the digits of f in powers of h. f = g(h) exactly if every digit is
 // a constant, and then they are the coefficients of g. One list holds the digits found and, above them, the quotient still to
 // be divided. Where there are many digits some are taken at once, by a division by h^k, and told apart by divisions by h.
+//
+// The report (request No. 7) takes all digits, constants or not: the highest that is none tells at which power f and g(h) differ first.
 ghost use mathlib.Core.Path.{_≡_};
 ghost use Prim.Native.Nat.{ℕ, _+_, _*_, _≤_, _<_};
 ghost use lib.ListN.{length};

@@ -38,12 +38,17 @@ impl Answer for Quick {
     }
 
     fn lines(&self) -> Lines {
-        vec![
-            ("refusal", self.refused.to_string()),
-            ("yes", self.yes.to_string()),
-            ("power", self.power.to_string()),
-        ]
+        lines(self.refused, self.yes, self.power)
     }
+}
+
+/// The power as a number or in words.
+fn lines(refused: Refused, yes: usize, power: impl ToString) -> Lines {
+    vec![
+        ("refusal", refused.to_string()),
+        ("yes", yes.to_string()),
+        ("power", power.to_string()),
+    ]
 }
 
 /// What can be said of a quick answer by those who know only the full split.
@@ -97,10 +102,6 @@ impl Answer for Told {
     }
 
     fn lines(&self) -> Lines {
-        vec![
-            ("refusal", self.refused.to_string()),
-            ("yes", self.yes.to_string()),
-            ("power", self.power.to_string()),
-        ]
+        lines(self.refused, self.yes, self.power)
     }
 }

@@ -9,12 +9,11 @@ use crate::damage;
 use crate::desk;
 use crate::inputs;
 use crate::operation::quick::{
-    kinds_answered, Quick, NO_AT_126, NO_BETWEEN, NO_HIGHEST, NO_LOWEST, YES, YES_AT_126,
+    kinds_told, Quick, NO_AT_126, NO_BETWEEN, NO_HIGHEST, NO_LOWEST, YES, YES_AT_126,
 };
 use crate::operation::split::{self, SplitAt, NO_PAIR, SHARING, UNFIT};
 use crate::operation::Operation;
 use crate::random::Random;
-use crate::refused::Refused;
 use crate::tally::Wanted;
 
 pub struct ChangedQuick;
@@ -74,10 +73,7 @@ impl Law for ChangedQuick {
     }
 
     fn kinds(input: &Input, answer: &Answered) -> Vec<&'static str> {
-        match answer.refused {
-            Refused::ANSWERED => kinds_answered(input.at.asked.degrees()[0], input.at.r, answer),
-            _ => Vec::new(),
-        }
+        kinds_told(&input.at, answer)
     }
 
     fn show(input: &Input) -> String {

@@ -6,12 +6,11 @@ use super::Law;
 use crate::answer::quick::Quick as Answered;
 use crate::desk;
 use crate::inputs;
-use crate::operation::quick::{kinds_answered, Quick, NO_AT_126, NO_BETWEEN, NO_HIGHEST};
+use crate::operation::quick::{kinds_told, Quick, NO_AT_126, NO_BETWEEN, NO_HIGHEST};
 use crate::operation::split::{self, SplitAt, NO_PAIR};
 use crate::operation::Operation;
 use crate::polynomial::Polynomial;
 use crate::random::Random;
-use crate::refused::Refused;
 use crate::tally::Wanted;
 
 pub struct QuickBelow;
@@ -69,10 +68,7 @@ impl Law for QuickBelow {
     }
 
     fn kinds(input: &Input, answer: &Answered) -> Vec<&'static str> {
-        match answer.refused {
-            Refused::ANSWERED => kinds_answered(input.at.asked.degrees()[0], input.at.r, answer),
-            _ => Vec::new(),
-        }
+        kinds_told(&input.at, answer)
     }
 
     fn show(input: &Input) -> String {

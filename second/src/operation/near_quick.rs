@@ -8,9 +8,8 @@ use super::{Operation, Own, Worked};
 use crate::answer::quick::Quick as Answered;
 use crate::asked::Asked;
 use crate::modulus::{Modulus, TOP_WORD};
-use crate::near::{Near, Other, Walk};
+use crate::near::{moduli_inverting, Near, Other, Walk};
 use crate::random::Random;
-use crate::residue::shares_factor;
 use crate::tally::Wanted;
 use std::sync::OnceLock;
 
@@ -95,10 +94,8 @@ const MODULI: [u32; 14] = [
     0,
 ];
 
-/// Those modulo which r has an inverse.
 fn moduli(r: usize) -> Vec<Modulus> {
-    let moduli = MODULI.into_iter().map(Modulus::of_word);
-    moduli.filter(|&m| !shares_factor(r as u64, m)).collect()
+    moduli_inverting(r, &MODULI.map(Modulus::of_word))
 }
 
 /// With h(0) zero and not zero: any pair becomes normal.

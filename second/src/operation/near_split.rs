@@ -5,7 +5,7 @@
 use super::{split, Operation, Own, Worked};
 use crate::answer::Two;
 use crate::asked::Asked;
-use crate::near::{self, Walk};
+use crate::near::{moduli_inverting, Walk, MODULI};
 use crate::random::Random;
 use crate::tally::Wanted;
 use split::{Split, SplitAt, NO_PAIR};
@@ -16,7 +16,7 @@ pub struct NearSplit;
 /// With h(0) zero, and at the moduli that give r an inverse.
 fn walk() -> &'static Walk {
     static WALK: OnceLock<Walk> = OnceLock::new();
-    WALK.get_or_init(|| Walk::new(&[true], near::moduli_inverting))
+    WALK.get_or_init(|| Walk::new(&[true], |r| moduli_inverting(r, &MODULI)))
 }
 
 impl Operation for NearSplit {

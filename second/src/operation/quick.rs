@@ -132,6 +132,14 @@ pub fn kinds_answered(n: usize, r: usize, answer: &Answered) -> Vec<&'static str
     is.map(|(kind, _)| kind).collect()
 }
 
+/// The same; a refusal is none of them.
+pub fn kinds_told(at: &SplitAt, answer: &Answered) -> Vec<&'static str> {
+    match answer.refused {
+        Refused::ANSWERED => kinds_answered(at.asked.degrees()[0], at.r, answer),
+        _ => Vec::new(),
+    }
+}
+
 // The inputs.
 
 /// What the split is given, "no pair" more often.
