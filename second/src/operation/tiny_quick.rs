@@ -3,11 +3,10 @@
 
 use super::quick::{self, Quick, NO_BETWEEN, NO_HIGHEST, NO_LOWEST, YES};
 use super::split::SplitAt;
+use super::tiny_split::{numbered, Block};
 use super::{Operation, Own, Worked};
 use crate::answer::quick::Quick as Answered;
-use crate::asked::Asked;
 use crate::list::List;
-use crate::modulus::Modulus;
 use crate::quick::{difference, highest_apart};
 use crate::random::Random;
 use crate::tally::Wanted;
@@ -15,9 +14,6 @@ use crate::tiny::{self, forced, Size};
 use std::sync::OnceLock;
 
 pub struct TinyQuick;
-
-/// A size and the left degree.
-type Block = (Size, usize);
 
 fn list() -> &'static List<Block> {
     static LIST: OnceLock<List<Block>> = OnceLock::new();
@@ -55,9 +51,7 @@ impl Operation for TinyQuick {
     }
 
     fn input(index: u64, _random: &mut Random) -> SplitAt {
-        let ((size, r), number) = list().at(index);
-        let asked = Asked::one(Modulus::of_word(size.0), tiny::monic(size, number));
-        SplitAt { asked, r }
+        numbered(list().at(index))
     }
 
     fn own(input: &SplitAt) -> Own<Answered> {

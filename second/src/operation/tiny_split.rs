@@ -16,7 +16,13 @@ use std::sync::OnceLock;
 pub struct TinySplit;
 
 /// A size and the left degree.
-type Block = (Size, usize);
+pub type Block = (Size, usize);
+
+/// The f of that number in the block, at its left degree.
+pub fn numbered(((size, r), number): (Block, u64)) -> SplitAt {
+    let asked = Asked::one(Modulus::of_word(size.0), tiny::monic(size, number));
+    SplitAt { asked, r }
+}
 
 fn list() -> &'static List<Block> {
     static LIST: OnceLock<List<Block>> = OnceLock::new();
@@ -54,9 +60,7 @@ impl Operation for TinySplit {
     }
 
     fn input(index: u64, _random: &mut Random) -> SplitAt {
-        let ((size, r), number) = list().at(index);
-        let asked = Asked::one(Modulus::of_word(size.0), tiny::monic(size, number));
-        SplitAt { asked, r }
+        numbered(list().at(index))
     }
 
     fn own(input: &SplitAt) -> Own<Two> {
