@@ -18,10 +18,10 @@ loop-holds c = (omega arith, stepped-none (c .pre .0), refl)
 
 -- no sum is above a word
 add-b : tie.Need-add-b Inv-loop μ-loop
-add-b c = let l = c .before .before .before .loop in record { fits = sum-fits (l .i) (c .before .before .before .before .pre .1) (c .before .before .loop-test .taken) (l .inv .1) }
+add-b c = let l = c .before .before .before .loop in record { fits = sum-fits (l .i) (c .before .before .before .before .pre .1) (omega arith) (l .inv .1) }
 
 loop-again : tie.Need-loop-again Inv-loop μ-loop
-loop-again c = let l = c .before .before .before .loop in (omega arith, stepped-more (l .i) (c .before .before .loop-test .taken) (l .inv .0) refl (l .inv .1), simp length-set (l .inv .2))
+loop-again c = let l = c .before .before .before .loop in (omega arith, stepped-more (l .i) (omega arith) (l .inv .0) refl (l .inv .1), simp length-set (l .inv .2))
 
 same-length : tie.Need-same-length Inv-loop μ-loop
 same-length c = c .before .loop .inv .2
