@@ -227,7 +227,7 @@ fn highest(p: &[u32], r: usize, s: usize) -> usize
     ensures { λ k. ⌜ HighestAt s (now (p .entry)) k ⌝ }
 {
     let mut j = r;
-    while j != 0 {
+    while 0 < j {
         j -= 1;
         let at = j * s;
         let end = at + s;
