@@ -1,4 +1,6 @@
 pub mod Numbers
+pub mod Congruent
+pub mod Sizes
 pub mod Ring
 pub mod Series
 pub mod Sums

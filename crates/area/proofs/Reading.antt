@@ -1,6 +1,5 @@
 -- An area read back: what was written into it is handed out again, part by part.
 --
---   handed-out xs k         the parts 0 to k - 1 of xs as they are handed out, listed from the right
 --   Fills p, part-fills     p fills a place and is not all zero; so does every part of a chain
 --   zero-at, zeros          every word of what is all zero; a list of zeros is all zero
 --   part-full, part-empty   a part that is handed out, and one that is not, by the words of its place
@@ -11,7 +10,7 @@
 --   read-past               and after the last of them nothing
 --   parts-handed            so parts of a chain that were written are what the area hands out
 use mathlib.Core.Path.{_≡_, refl, sym, ap, ap₂, _∙_}
-use mathlib.Core.Bool.{Bool, true, false, _&&_}
+use mathlib.Core.Bool.{Bool, true, false, and-eq-true-iff}
 use mathlib.Core.List.{List, [], _∷_, _++_, append-assoc}
 use Prim.Native.Nat.{ℕ, zero, suc, _+_, _*_, _-_, _%_, _≤_, _<_}
 use native.Mathlib.Nat as N
@@ -23,14 +22,9 @@ use lib.ListN.{length, take, drop, replicate, length-append, length-drop, length
 use lib.Seq.{take-at, drop-at, drop-drop, drop-append-add}
 use Rattle.algebra.specs.Polynomial.{coef, degree, terms}
 use Rattle.algebra.specs.Chain.{part, Part}
-use Rattle.area.specs.Area.{most-parts, area-words, start, place, cleared, laid, written, all-zero, part-of}
+use Rattle.area.specs.Area.{most-parts, area-words, start, place, cleared, laid, written, all-zero, part-of, handed-out}
 use Rattle.area.proofs.Handing.{past}
 use Rattle.area.proofs.Laying.{Full, laid-none, laid-more}
-
--- part k - 1, the one next to x, comes first
-unfoldable pub handed-out : List ℕ → ℕ → List (List ℕ)
-handed-out xs zero = []
-handed-out xs (suc k) = part-of xs k ∷ handed-out xs k
 
 -- so many words as a place has, and not all zero
 pub record Fills (p : List ℕ) : Type 0 where
@@ -41,16 +35,12 @@ pub record Fills (p : List ℕ) : Type 0 where
 abbrev pub EachFills : List (List ℕ) → Type 0
 EachFills parts = (i : ℕ) → i < length parts → Fills (part parts i)
 
-both : (s t : Bool) → (s && t) ≡ true → (s ≡ true) × (t ≡ true)
-both true t h = (refl, h)
-both false t h = (h, cc)
-
 -- every word of it is zero
 pub zero-at : (p : List ℕ) → all-zero p ≡ true → (i : ℕ) → coef p i ≡ 0
 unfolding all-zero
 zero-at [] e i = refl
-zero-at (x ∷ p) e zero = eqb-true x 0 (both (eqb x 0) (all-zero p) e .0)
-zero-at (x ∷ p) e (suc i) = zero-at p (both (eqb x 0) (all-zero p) e .1) i
+zero-at (x ∷ p) e zero = eqb-true x 0 (and-eq-true-iff (eqb x 0) (all-zero p) .0 e .0)
+zero-at (x ∷ p) e (suc i) = zero-at p (and-eq-true-iff (eqb x 0) (all-zero p) .0 e .1) i
 
 -- a part of a chain has a coefficient 1
 pub part-fills : {m : ℕ} {p : List ℕ} → 2 ≤ m → Part m p → Fills p

@@ -11,9 +11,10 @@
 --   all-zero xs          whether every word is zero
 --   if-so test p         p, or none
 --   part-of xs i         part i as it is handed out: the words of place i, or none
+--   handed-out xs k      the parts 0 to k - 1 of xs as they are handed out, listed from the right
 use mathlib.Core.Bool.{Bool, true, false, not, _&&_}
 use mathlib.Core.List.{List, [], _∷_, _++_}
-use Prim.Native.Nat.{ℕ, _*_}
+use Prim.Native.Nat.{ℕ, zero, suc, _*_}
 use lib.Dec.{ltb, leb, eqb}
 use lib.ListN.{length, take, drop, replicate}
 use Rattle.algebra.specs.Polynomial.{terms}
@@ -64,3 +65,8 @@ if-so false p = []
 -- none if i is no place, the area is too short, or the words are all zero
 unfoldable pub part-of : List ℕ → ℕ → List ℕ
 part-of xs i = if-so (ltb i most-parts && leb area-words (length xs) && not (all-zero (place xs i))) (place xs i)
+
+-- part k - 1, the one next to x, comes first
+unfoldable pub handed-out : List ℕ → ℕ → List (List ℕ)
+handed-out xs zero = []
+handed-out xs (suc k) = part-of xs k ∷ handed-out xs k

@@ -26,7 +26,7 @@ use Rattle.algebra.proofs.Numbers.{sum-split, sum-zeros}
 use Rattle.algebra.proofs.Highest.{degree-above, degree-below, degree-same}
 use Rattle.polynomial.specs.Checks.{Measured}
 use Rattle.polynomial.proofs.Filling.{Filled, filled-none, filled-more, filled-all, zeros}
-use Rattle.residue.specs.Residue.{inner, Within}
+use Rattle.inner.specs.Inner.{inner, Within}
 use Rattle.composition.specs.Composition.{Ends}
 use Rattle.built.specs.Built.{Low}
 

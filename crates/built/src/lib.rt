@@ -4,14 +4,14 @@ ghost use mathlib.Core.Path.{_≡_};
 ghost use mathlib.Core.Bool.{true, false};
 ghost use Prim.Native.Nat.{_+_, _-_, _*_, _%_, _≤_, min, max};
 ghost use Rattle.algebra.specs.Polynomial.{coef, plus, scaled, times, limit, degree as degree-of};
-ghost use Rattle.residue.specs.Ready.{Ready};
+ghost use Rattle.reciprocal.specs.Ready.{Ready};
 ghost use Rattle.polynomial.specs.Checks.{Measured};
 ghost use Rattle.composition.specs.Composition.{Ends};
 ghost use Rattle.built.specs.Built.{single as single-of, Low, built as built-of, above as above-of, Settles, Joins, Shifts, Powers, Raises};
 use polynomial::Coefficients;
 use polynomial::LIMIT;
 use polynomial::TERMS;
-use residue::Divisor;
+use reciprocal::Divisor;
 
 pub struct Built {
     pub over: bool,
@@ -45,7 +45,7 @@ pub fn single(c: u64, k: usize, m: Divisor) -> Built
     ensures { λ r. ⌜ r ≡ built-of (m .number) (single-of c k) ⌝ }
 {
     let mut x = [0; TERMS];
-    x[k] = residue::remainder(c, m);
+    x[k] = reciprocal::remainder(c, m);
     let degree = degree_to(&x, k);
     Built {
         over: false,
@@ -69,7 +69,7 @@ fn mixed(x: &[u32], y: &[u32], top: usize, k: u32, m: Divisor) -> Built
     let mut c = [0; TERMS];
     let end = top + 1;
     for i in 0..end {
-        c[i] = residue::two_products(1, x[i], k, y[i], m);
+        c[i] = inner::two_products(1, x[i], k, y[i], m);
     }
     let degree = degree_to(&c, top);
     Built {
@@ -106,7 +106,7 @@ fn coefficient(x: &[u32], n: usize, y: &[u32], s: usize, k: usize, m: Divisor) -
     requires { ⌜ Ready m × Measured n (now x) × Measured s (now y) × (k ≤ n + s) ⌝ }
     ensures { λ r. ⌜ r ≡ coef (times (now (x .entry)) (now (y .entry))) k % m .number ⌝ }
 {
-    residue::inner_product(x, y, k, less(k, s), polynomial::smaller(k, n) + 1, m)
+    inner::inner_product(x, y, k, less(k, s), polynomial::smaller(k, n) + 1, m)
 }
 
 // Whether a coefficient of the product above the limit is not zero; from the top, where most such products show it.

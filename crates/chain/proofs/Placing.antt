@@ -22,8 +22,9 @@ use Rattle.algebra.proofs.Chains.{sum-within, chain-length}
 use Rattle.algebra.proofs.Reduction.{degree-monic}
 use Rattle.area.specs.Area.{most-parts, put-at, laid}
 use Rattle.area.proofs.Laying.{Full, laid-none, laid-more, put-next}
-use Rattle.chain.specs.Chaining.{FirstSplit, NoSplit, ChainedIn}
-use Rattle.chain.proofs.Rounds.{tested-few}
+use Rattle.round.specs.Round.{FirstSplit, NoSplit}
+use Rattle.chain.specs.Chaining.{ChainedIn}
+use Rattle.round.proofs.Rounds.{tested-few}
 
 -- one part more would have a degree above the limit
 pub places-enough : {n k : ℕ} → n ≤ limit → 2 ^ k ≤ n → k ≤ most-parts

@@ -3,20 +3,21 @@ ghost use mathlib.Core.Path.{_≡_};
 ghost use mathlib.Core.List.{List};
 ghost use Prim.Native.Nat.{ℕ, _*_, _%_, _≤_};
 ghost use lib.ListN.{length};
-ghost use Rattle.algebra.specs.Number.{Coprime, Modulus};
+ghost use Rattle.algebra.specs.Number.{Modulus};
 ghost use Rattle.algebra.specs.Polynomial.{degree};
 ghost use Rattle.algebra.specs.Chain.{cost as cost-of};
-ghost use Rattle.residue.specs.Ready.{Ready};
+ghost use Rattle.reciprocal.specs.Ready.{Ready};
 ghost use Rattle.polynomial.specs.Moduli.{modulus};
 ghost use Rattle.area.specs.Area.{area-words};
-ghost use Rattle.chain.specs.Chaining.{ChainAsked, Searched, Splittable, ChainedIn, Shares, unchained as unchained-of, ChainGiven, ChainFound, ChainOf};
+ghost use Rattle.round.specs.Round.{ChainAsked};
+ghost use Rattle.chain.specs.Chaining.{ChainedIn, Shares, unchained as unchained-of, ChainGiven, ChainFound, ChainOf};
 use binomial::ENTRIES;
+use inverse::Inverse;
 use polynomial::Coefficients;
+use reciprocal::Divisor;
 use refusal::Concerns;
 use refusal::Outcome;
 use refusal::Reason;
-use residue::Divisor;
-use residue::Inverse;
 
 // What the chain answers: zeros after a refusal.
 pub struct Chained {
@@ -24,75 +25,6 @@ pub struct Chained {
     pub parts: usize,
     pub tries: usize,
     pub price: usize,
-}
-
-// What a round over the right degrees finds: the first split, and the tries.
-struct Round {
-    found: bool,
-    at: usize,
-    tries: usize,
-    left: Coefficients,
-    right: Coefficients,
-}
-
-// The inverse of n, which shares no factor with m.
-fn inverse(n: usize, m: u64) -> u32
-    requires { ⌜ Modulus m × Coprime n m ⌝ }
-    ensures { λ v. ⌜ n * v % m ≡ 1 ⌝ }
-{
-    match residue::invert(n as u64, m) {
-        Inverse::Of(v) => v,
-        Inverse::Shared(_) => 0,
-    }
-}
-
-// The round: each right degree from 2 to n / 2 that divides n, until f splits. v is the inverse of n. The quick question is asked at
-// each, and the split is carried out only where it leaves a pair open.
-fn first_split(f: Coefficients, n: usize, v: u32, table: &[u64; ENTRIES], m: Divisor) -> Round
-    requires { ⌜ ChainAsked (m .number) n f (now table) × (n * v % m .number ≡ 1) × Ready m ⌝ }
-    ensures { λ a. ⌜ Searched (m .number) n f (a .found) (a .at) (a .tries) (a .left) (a .right) ⌝ }
-{
-    let mut rows = [0; right::WORDS];
-    let mut tries = 0;
-    for s in 2..n / 2 + 1 {
-        if n % s != 0 {
-            continue;
-        }
-        tries += 1;
-        if !pair::is_open(&mut rows, &f, n, n / s, s, v, table, m) {
-            continue;
-        }
-        let a = pair::split_open(f, &rows, n, n / s, s, m);
-        let o = a.outcome;
-        if !refusal::refuses(o) {
-            let left = a.left;
-            let right = a.right;
-            return Round {
-                found: true,
-                at: s,
-                tries,
-                left,
-                right,
-            };
-        }
-    }
-    Round {
-        found: false,
-        at: 0,
-        tries,
-        left: f,
-        right: f,
-    }
-}
-
-// Whether f splits.
-pub fn splits(f: Coefficients, n: usize, table: &[u64; ENTRIES], m: Divisor) -> bool
-    requires { ⌜ ChainAsked (m .number) n f (now table) × Ready m ⌝ }
-    ensures { λ b. ⌜ Splittable (m .number) f b ⌝ }
-{
-    let v = inverse(n, m.number);
-    let a = first_split(f, n, v, table, m);
-    a.found
 }
 
 // How many parts were written, their tries and their price.
@@ -123,7 +55,7 @@ fn parts(
     requires { ⌜ ChainAsked (m .number) n f (now table) × (area-words ≤ length (now area)) × (n * v % m .number ≡ 1) × Ready m ⌝ }
     ensures { λ c. ⌜ ChainedIn (m .number) n f (now (area .entry)) (now (area .exit)) (c .parts) (c .tries) (c .price) ⌝ }
 {
-    let a = first_split(f, n, v, table, m);
+    let a = round::first_split(f, n, v, table, m);
     if !a.found {
         area::put(area, 0, &f);
         return Counted {
@@ -165,7 +97,7 @@ pub fn shares(n: usize, m: u64) -> bool
     requires { ⌜ Modulus m ⌝ }
     ensures { λ b. ⌜ Shares n m b ⌝ }
 {
-    match residue::invert(n as u64, m) {
+    match inverse::invert(n as u64, m) {
         Inverse::Of(_) => false,
         Inverse::Shared(_) => true,
     }
@@ -182,7 +114,7 @@ pub fn accepted(
     requires { ⌜ ChainGiven (m .number) n f (now area) (now table) × Ready m ⌝ }
     ensures { λ x. ⌜ ChainFound (m .number) n f (now (area .entry)) (now (area .exit)) x ⌝ }
 {
-    let Inverse::Of(v) = residue::invert(n as u64, m.number) else {
+    let Inverse::Of(v) = inverse::invert(n as u64, m.number) else {
         return unchained(refusal::refused(Concerns::Neither, Reason::Factor));
     };
     let c = parts(f, n, v, area, table, m);
@@ -208,7 +140,7 @@ pub fn chain(m: u32, f: Coefficients, area: &mut [u32]) -> Chained
     if refusal::refuses(o) {
         return unchained(o);
     }
-    let d = residue::made_ready(m);
+    let d = reciprocal::made_ready(m);
     let table = binomial::table();
     accepted(f, n, area, &table, d)
 }

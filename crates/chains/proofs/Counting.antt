@@ -1,59 +1,32 @@
 -- Counting the complete chains over the right degrees.
 --
 --   undivided                          s does not divide n, so no complete chain has a rightmost part of degree s
---   missed, splits-on, ends-there      it does: there is no pair; there is one, and its right part splits; or it does not
 --   Below m f s c                      c complete chains of f have a rightmost degree below s
 --   none-listed                        none of them
 --   below-none, below-pass, below-take     none is below 2; none at s; those at s are the chains of the left part
 --   below-few                          the count fits a word
 --   counted-one, counted-all           past n/2: none was found, and f is its only chain; or those that were found are all
-use mathlib.Core.Path.{_≡_, refl, sym}
-use mathlib.Core.Bool.{Bool, true, false, false≢true}
+use mathlib.Core.Path.{_≡_, refl}
 use mathlib.Core.List.{List, [], _∷_, _++_, map}
 use Prim.Native.Nat.{ℕ, _+_, _*_, _/_, _%_, _≤_, _<_}
 use native.Mathlib.Nat as N
 use native.Mathlib.Omega.{arith}
 use lib.ListN.{length, length-append, length-map}
 use Rattle.algebra.specs.Polynomial.{limit, degree}
-use Rattle.algebra.specs.Pair.{NormalPair, NoPair}
 use Rattle.algebra.specs.Chain.{part}
 use Rattle.algebra.specs.Every.{CompleteChain, Lists}
-use Rattle.algebra.proofs.Chains.{sum-within}
 use Rattle.algebra.proofs.Complete.{Chainable}
 use Rattle.algebra.proofs.Every as E
-use Rattle.algebra.proofs.Every.{RightAt, RightBelow}
+use Rattle.algebra.proofs.Every.{RightBelow}
 use Rattle.algebra.proofs.Few as F
-use Rattle.polynomial.specs.Degrees.{Degrees}
-use Rattle.chain.specs.Chaining.{Splittable}
-use Rattle.chain.proofs.Rounds.{split-divides, split-pair}
-use Rattle.chains.specs.declared.Ending.{Ending}
-use Rattle.chains.specs.Walking.{Rightmost, unended, RightmostAt, HasChains}
+use Rattle.round.proofs.Rounds.{split-divides}
+use Rattle.ending.specs.Ending.{Rightmost}
+use Rattle.chains.specs.Walking.{HasChains}
 
 module _ {m n : ℕ} {f : List ℕ} (t : Chainable m n f) {s : ℕ} where
-  -- a no
-  none-ends : {a : Ending} → ((x : List (List ℕ)) → RightAt m f s x → ⊥) → a ≡ unended f → RightmostAt m n f s (a .found) (a .left) (a .right)
-  none-ends none is = rw is (record { yes = λ z. absurd (false≢true z); no = λ z x c e. none x (c, e); beside = λ z. (refl, refl) })
-
   -- no pair has a right degree that does not divide n
   pub undivided : s ≤ n / 2 → (n % s ≡ 0 → ⊥) → (x : List (List ℕ)) → CompleteChain m f x → degree (part x 0) ≡ s → ⊥
   undivided half none x c e = E.at-none t (omega (arith, t .two, half)) (λ w. none (split-divides w)) x (c, e)
-
-  -- f does not split at s
-  pub missed : {a : Ending} → Degrees n (n / s) s → NoPair m f (n / s) s → a ≡ unended f → RightmostAt m n f s (a .found) (a .left) (a .right)
-  missed d none = none-ends (E.at-none t (omega (arith, d .two-left, sum-within (d .two-left) (d .two-right) (d .product))) (λ w. none (w .g) (w .h) (split-pair w)))
-
-  module _ {g h : List ℕ} {b : Bool} (d : Degrees n (n / s) s) (p : NormalPair m f (n / s) s g h) (w : Splittable m h b) where
-    -- it does, and the right part splits
-    pub splits-on : {a : Ending} → b ≡ true → a ≡ unended f → RightmostAt m n f s (a .found) (a .left) (a .right)
-    splits-on z = none-ends (E.at-split t (d .two-left) (d .two-right) (d .product) p (w .yes z))
-
-    -- or it does not
-    pub ends-there : b ≡ false → RightmostAt m n f s true g h
-    ends-there z = record {
-      yes = λ o. record { two-left = d .two-left; two-right = d .two-right; product = d .product; pair = p; unsplit = w .no z };
-      no = λ o. absurd (false≢true (sym o));
-      beside = λ o. absurd (false≢true (sym o));
-    }
 
 -- the chains with a rightmost degree below s
 pub record Below (m : ℕ) (f : List ℕ) (s c : ℕ) : Type 0 where

@@ -27,8 +27,9 @@ use Rattle.area.specs.Area.{most-parts, put-at}
 use Rattle.area.proofs.Laying.{Full, laid-none, put-next}
 use Rattle.area.proofs.Reading.{part-fills, fills-full}
 use Rattle.chain.proofs.Placing.{places-enough}
+use Rattle.ending.specs.Ending.{Rightmost}
 use Rattle.chains.specs.declared.Reach.{Reach}
-use Rattle.chains.specs.Walking.{Rightmost, HasChains, NthIn, NoNth, reached, passed, Walked, yes, no}
+use Rattle.chains.specs.Walking.{HasChains, NthIn, NoNth, reached, passed, Walked, yes, no}
 use Rattle.chains.proofs.Counting.{Below, below-none, below-pass, below-take, none-listed, counted-one, counted-all}
 
 -- every part fills its place

@@ -1,43 +1,20 @@
--- The complete chains of f counted, and walked through to the j-th, right degree by right degree.
+-- The complete chains of f counted, and walked through to the j-th, right degree by right degree. Only leaves need this.
 --
---   Rightmost m n f s g h            h, of degree s, is the rightmost part of some complete chain of f, and g is what the others compose to
---   unended f                        how a no is answered
---   RightmostAt m n f s b g h        whether some complete chain of f has a rightmost part of degree s
 --   HasChains m f c                  f has c complete chains
 --   NthIn m f j xs ys k c            the j-th chain of f stands in the first k places of ys, with its price c
 --   NoNth m f j xs ys c              f has c complete chains, which are not more than j, and nothing was written
 --   reached k c, passed c            how a j-th chain is answered, and that there is none
 --   Walked m f j xs ys a             what the walk to the j-th chain finds
 use mathlib.Core.Path.{_≡_}
-use mathlib.Core.Bool.{Bool, true, false}
+use mathlib.Core.Bool.{true, false}
 use mathlib.Core.List.{List, _++_}
-use Prim.Native.Nat.{ℕ, _*_, _/_, _≤_}
+use Prim.Native.Nat.{ℕ, _*_, _≤_}
 use lib.ListN.{length, drop}
-use Rattle.algebra.specs.Polynomial.{terms, degree}
-use Rattle.algebra.specs.Pair.{NormalPair, Unsplit}
-use Rattle.algebra.specs.Chain.{part, price}
-use Rattle.algebra.specs.Every.{CompleteChain, EveryChain, NthChain}
+use Rattle.algebra.specs.Polynomial.{terms}
+use Rattle.algebra.specs.Chain.{price}
+use Rattle.algebra.specs.Every.{EveryChain, NthChain}
 use Rattle.area.specs.Area.{laid}
-use Rattle.chains.specs.declared.Ending.{Ending}
 use Rattle.chains.specs.declared.Reach.{Reach}
-
--- f splits at s, and its right part there does not split
-pub record Rightmost (m n : ℕ) (f : List ℕ) (s : ℕ) (g h : List ℕ) : Type 0 where
-  pub two-left : 2 ≤ n / s
-  pub two-right : 2 ≤ s
-  pub product : n / s * s ≡ n
-  pub pair : NormalPair m f (n / s) s g h
-  pub unsplit : Unsplit m h
-
--- a no, with f in place of both parts
-abbrev pub unended : List ℕ → Ending
-unended f = record { found = false; left = f; right = f }
-
--- a yes with the pair, a no for all complete chains
-pub record RightmostAt (m n : ℕ) (f : List ℕ) (s : ℕ) (found : Bool) (g h : List ℕ) : Type 0 where
-  pub yes : found ≡ true → Rightmost m n f s g h
-  pub no : found ≡ false → (x : List (List ℕ)) → CompleteChain m f x → degree (part x 0) ≡ s → ⊥
-  pub beside : found ≡ false → (g ≡ f) × (h ≡ f)
 
 -- the list of all of them has length c
 pub record HasChains (m : ℕ) (f : List ℕ) (c : ℕ) : Type 0 where

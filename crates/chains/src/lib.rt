@@ -1,20 +1,19 @@
 // Every complete chain of f: how many there are, and the j-th of them in a lent area.
 ghost use mathlib.Core.Path.{_≡_};
-ghost use Prim.Native.Nat.{_/_, _≤_};
+ghost use Prim.Native.Nat.{_≤_};
 ghost use lib.ListN.{length};
-ghost use Rattle.residue.specs.Ready.{Ready};
+ghost use Rattle.reciprocal.specs.Ready.{Ready};
 ghost use Rattle.polynomial.specs.Moduli.{modulus};
-ghost use Rattle.polynomial.specs.Degrees.{Degrees};
 ghost use Rattle.area.specs.Area.{area-words};
-ghost use Rattle.chain.specs.Chaining.{ChainAsked};
-ghost use Rattle.chains.specs.Walking.{unended as unended-of, RightmostAt, HasChains, reached as reached-of, passed as passed-of, Walked};
+ghost use Rattle.round.specs.Round.{ChainAsked};
+ghost use Rattle.chains.specs.Walking.{HasChains, reached as reached-of, passed as passed-of, Walked};
 ghost use Rattle.chains.specs.Choosing.{unnumbered as unnumbered-of, unchosen as unchosen-of, NumberOf, NthOf};
 use binomial::ENTRIES;
 use polynomial::Coefficients;
+use reciprocal::Divisor;
 use refusal::Concerns;
 use refusal::Outcome;
 use refusal::Reason;
-use residue::Divisor;
 
 // What the number of chains answers: zero after a refusal.
 pub struct Numbered {
@@ -29,46 +28,6 @@ pub struct Chosen {
     pub price: usize,
 }
 
-// Whether some complete chain has a rightmost part of some degree; that part, and the left part that the others compose to.
-struct Ending {
-    found: bool,
-    left: Coefficients,
-    right: Coefficients,
-}
-
-// No complete chain has one.
-fn unended(f: Coefficients) -> Ending
-    ensures { λ a. ⌜ a ≡ unended-of f ⌝ }
-{
-    Ending {
-        found: false,
-        left: f,
-        right: f,
-    }
-}
-
-// The rightmost part of degree s: the right part of f there, if it does not split.
-fn rightmost(f: Coefficients, n: usize, s: usize, table: &[u64; ENTRIES], m: Divisor) -> Ending
-    requires { ⌜ ChainAsked (m .number) n f (now table) × Degrees n (n / s) s × Ready m ⌝ }
-    ensures { λ a. ⌜ RightmostAt (m .number) n f s (a .found) (a .left) (a .right) ⌝ }
-{
-    let a = pair::split_at(f, n, n / s, s, table, m);
-    let o = a.outcome;
-    let left = a.left;
-    let right = a.right;
-    if refusal::refuses(o) {
-        return unended(f);
-    }
-    if chain::splits(right, s, table, m) {
-        return unended(f);
-    }
-    Ending {
-        found: true,
-        left,
-        right,
-    }
-}
-
 // The number of complete chains: over the right degrees from 2 to n / 2, and f alone if none of them has any.
 fn count(f: Coefficients, n: usize, table: &[u64; ENTRIES], m: Divisor) -> usize
     requires { ⌜ ChainAsked (m .number) n f (now table) × Ready m ⌝ }
@@ -78,7 +37,7 @@ fn count(f: Coefficients, n: usize, table: &[u64; ENTRIES], m: Divisor) -> usize
     let mut s = 2;
     while s <= n / 2 {
         if n % s == 0 {
-            let a = rightmost(f, n, s, table, m);
+            let a = ending::rightmost(f, n, s, table, m);
             if a.found {
                 let left = a.left;
                 c += count(left, n / s, table, m);
@@ -141,7 +100,7 @@ fn walk(
     let mut s = 2;
     while s <= n / 2 {
         if n % s == 0 {
-            let a = rightmost(f, n, s, table, m);
+            let a = ending::rightmost(f, n, s, table, m);
             if a.found {
                 let left = a.left;
                 let c = walk(left, n / s, rest, area, table, m);
@@ -196,7 +155,7 @@ pub fn count_chains(m: u32, f: Coefficients) -> Numbered
     if chain::shares(n, m) {
         return unnumbered(refusal::refused(Concerns::Neither, Reason::Factor));
     }
-    let d = residue::made_ready(m);
+    let d = reciprocal::made_ready(m);
     let table = binomial::table();
     let number = count(f, n, &table, d);
     Numbered {
@@ -222,7 +181,7 @@ pub fn nth_chain(m: u32, f: Coefficients, j: usize, area: &mut [u32]) -> Chosen
     if chain::shares(n, m) {
         return unchosen(refusal::refused(Concerns::Neither, Reason::Factor));
     }
-    let d = residue::made_ready(m);
+    let d = reciprocal::made_ready(m);
     let table = binomial::table();
     let a = walk(f, n, j, area, &table, d);
     if !a.found {

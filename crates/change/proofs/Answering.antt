@@ -8,12 +8,13 @@ use Prim.Native.Nat.{ℕ, _+_, _*_, _-_, _%_, _<_}
 use native.Mathlib.Nat as N
 use native.Mathlib.Omega.{arith}
 use Rattle.algebra.specs.Number.{Modulus}
-use Rattle.residue.specs.Residue.{InverseIs}
-use Rattle.residue.specs.declared.Inverse.the-variants.{Of}
-use Rattle.residue.proofs.Congruent.{Congruent, from-eq, reduced, plus, times, turn, _then_}
-use Rattle.residue.proofs.Inverses.{inverse-coprime}
+use Rattle.inverse.specs.Inverse.{InverseIs}
+use Rattle.inverse.specs.declared.Inverse.the-variants.{Of}
+use Rattle.algebra.proofs.Congruent.{Congruent, from-eq, reduced, plus, times, turn, _then_}
+use Rattle.inverse.proofs.Inverses.{inverse-coprime}
+use Rattle.moving.specs.Moving.{Inverts}
 use Rattle.change.specs.declared.Change.{Change}
-use Rattle.change.specs.Changing.{Proper, Tests, Inverts, Undone}
+use Rattle.change.specs.Changing.{Proper, Tests, Undone}
 
 -- the test says no
 pub tests-no : {m : ℕ} {c : Change} → (Proper m c → ⊥) → Tests m c false 0

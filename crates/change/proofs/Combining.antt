@@ -10,7 +10,7 @@ use native.Mathlib.Omega.{arith}
 use Rattle.algebra.proofs.Numbers.{mod-mul-mod, mul-mod-mod}
 use Rattle.algebra.proofs.Factors.{invertible-coprime, invertible-one, invertible-mul}
 use Rattle.algebra.proofs.Changes.{undoes-sym, undoes-invertible}
-use Rattle.residue.proofs.Congruent.{from-eq, reduced, turn, plus, times, _then_}
+use Rattle.algebra.proofs.Congruent.{from-eq, reduced, turn, plus, times, _then_}
 use Rattle.change.specs.declared.Change.{Change}
 use Rattle.change.specs.Changing.{identity, Proper, combined-change, Undone}
 use Rattle.change.proofs.Determined.{change, modulus-positive, proper-invertible}

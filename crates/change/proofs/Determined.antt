@@ -17,7 +17,7 @@ use Rattle.polynomial.specs.declared.Answer.{Answer}
 use Rattle.polynomial.specs.declared.Parts.{Parts}
 use Rattle.change.specs.declared.Change.{Change}
 use Rattle.change.specs.declared.Made.{Made}
-use Rattle.change.specs.Changing.{Proper, Combines, Undoing, ChangesPolynomial, ChangesPair, refused, not-proper, combined, undone, changed}
+use Rattle.change.specs.Changing.{Proper, Combines, Undoing, ChangesPolynomial, ChangesPair, refused, not-proper, first-improper, second-improper, combined, undone, changed}
 
 -- a change by its numbers
 abbrev pub change : ℕ → ℕ → Change
@@ -50,13 +50,20 @@ module _ {m : ℕ} {c : Change} where
   -- what combining answers
   pub combine-determined : {d : Change} {x y : Made} → Combines m c d x → Combines m c d y → x ≡ y
   combine-determined (refused e k) (refused f l) = cc
-  combine-determined (refused e k) (not-proper a n l) = cc
+  combine-determined (refused e k) (first-improper a n l) = cc
+  combine-determined (refused e k) (second-improper a p n l) = cc
   combine-determined (refused e k) (combined a p q l) = cc
-  combine-determined (not-proper a n k) (refused e l) = cc
-  combine-determined (not-proper a n k) (not-proper b o l) = cc
-  combine-determined (not-proper a n k) (combined b p q l) = absurd (n p q)
+  combine-determined (first-improper a n k) (refused e l) = cc
+  combine-determined (first-improper a n k) (first-improper b o l) = cc
+  combine-determined (first-improper a n k) (second-improper b p o l) = absurd (n p)
+  combine-determined (first-improper a n k) (combined b p q l) = absurd (n p)
+  combine-determined (second-improper a p n k) (refused e l) = cc
+  combine-determined (second-improper a p n k) (first-improper b o l) = absurd (o p)
+  combine-determined (second-improper a p n k) (second-improper b q o l) = cc
+  combine-determined (second-improper a p n k) (combined b q r l) = absurd (n r)
   combine-determined (combined a p q k) (refused e l) = cc
-  combine-determined (combined a p q k) (not-proper b n l) = absurd (n p q)
+  combine-determined (combined a p q k) (first-improper b n l) = absurd (n p)
+  combine-determined (combined a p q k) (second-improper b r n l) = absurd (n q)
   combine-determined (combined a p q k) (combined b o r l) = cc
 
   -- what a change of a polynomial answers

@@ -3,5 +3,3 @@ pub mod Combining
 pub mod Determined
 pub mod NotProper
 pub mod Following
-pub mod Moving
-pub mod Scaling

@@ -15,7 +15,7 @@ use Rattle.polynomial.specs.declared.Answer.{Answer}
 use Rattle.polynomial.specs.declared.Parts.{Parts}
 use Rattle.change.specs.declared.Change.{Change}
 use Rattle.change.specs.declared.Made.{Made}
-use Rattle.change.specs.Changing.{Proper, improper, Combines, Undoing, ChangesPolynomial, ChangesPair, refused, not-proper, combined, undone, changed}
+use Rattle.change.specs.Changing.{Proper, improper, Combines, Undoing, ChangesPolynomial, ChangesPair, refused, not-proper, first-improper, second-improper, combined, undone, changed}
 
 module _ {m : ℕ} {c : Change} where
   pub polynomial-improper : {f : List ℕ} {x : Answer} → check-one m f ≡ Answered → ChangesPolynomial m f c x → (x .outcome ≡ improper) ↔ (Proper m c → ⊥)
@@ -37,5 +37,6 @@ module _ {m : ℕ} {c : Change} where
 
   pub combine-improper : {d : Change} {x : Made} → check-modulus m ≡ Answered → Combines m c d x → (x .outcome ≡ improper) ↔ (Proper m c → Proper m d → ⊥)
   combine-improper k (refused e q) = absurd (never e k)
-  combine-improper k (not-proper e n q) = (λ z. n, λ z. ap (λ (x : Made). x .outcome) q)
+  combine-improper k (first-improper e n q) = (λ z p r. n p, λ z. ap (λ (x : Made). x .outcome) q)
+  combine-improper k (second-improper e p n q) = (λ z p r. n r, λ z. ap (λ (x : Made). x .outcome) q)
   combine-improper k (combined e p r q) = (λ z. absurd (never z (ap (λ (x : Made). x .outcome) q)), λ z. absurd (z p r))

@@ -4,9 +4,7 @@
 --   Proper m c                      what No. 8 asks: a and b are below m and a has an inverse
 --   Tests m c proper inverse        what the test of a change finds
 --   combined-change m c d           first c, then d
---   Inverts m a u                   m is a modulus, and u an inverse of a
 --   Undone m c d                    d undoes c
---   PolynomialChanged, RightChanged, PairChanged     what the leaves for a polynomial, a right part and a pair promise
 --   unchanged o                     the outcome o beside (1, 0), as after a refusal
 --   Combines m c d x                x answers: first c, then d
 --   Undoing m c x                   x answers: what undoes c
@@ -15,10 +13,10 @@
 use mathlib.Core.Path.{_≡_}
 use mathlib.Core.Bool.{Bool, true, false}
 use mathlib.Core.List.{List}
-use Prim.Native.Nat.{ℕ, _*_, _%_, _<_}
-use Rattle.algebra.specs.Number.{Coprime, Modulus}
-use Rattle.algebra.specs.Polynomial.{value, degree, Reduced}
-use Rattle.algebra.specs.Change.{Changed, ChangedRight, ChangedPair, Undoes, combined-unit, combined-origin}
+use Prim.Native.Nat.{ℕ, _%_, _<_}
+use Rattle.algebra.specs.Number.{Coprime}
+use Rattle.algebra.specs.Polynomial.{degree, Reduced}
+use Rattle.algebra.specs.Change.{Changed, ChangedPair, Undoes, combined-unit, combined-origin}
 use Rattle.refusal.specs.Refusal.{refusal}
 use Rattle.refusal.specs.declared.Refusal.{Refusal}
 use Rattle.refusal.specs.declared.Concerns.the-variants.{Neither}
@@ -30,6 +28,7 @@ use Rattle.polynomial.specs.Checks.{check-one, check-pair}
 use Rattle.polynomial.specs.Answers.{nothing, no-parts}
 use Rattle.polynomial.specs.declared.Answer.{Answer}
 use Rattle.polynomial.specs.declared.Parts.{Parts}
+use Rattle.moving.specs.Moving.{Inverts}
 use Rattle.change.specs.declared.Change.{Change}
 use Rattle.change.specs.declared.Made.{Made}
 
@@ -46,11 +45,6 @@ pub record Proper (m : ℕ) (c : Change) : Type 0 where
   pub unit-below : c .unit < m
   pub origin-below : c .origin < m
   pub invertible : Coprime (c .unit) m
-
--- u times a is 1
-pub record Inverts (m a u : ℕ) : Type 0 where
-  pub modulus : Modulus m
-  pub unit : u * a % m ≡ 1 % m
 
 -- what the test of a change finds: yes with an inverse of its unit, or no
 pub record Tests (m : ℕ) (c : Change) (proper : Bool) (inverse : ℕ) : Type 0 where
@@ -70,24 +64,6 @@ pub record Undone (m : ℕ) (c d : Change) : Type 0 where
   pub origin-below : d .origin < m
   pub undoes : Undoes m (c .unit) (c .origin) (d .unit) (d .origin)
 
--- the changed polynomial, reduced
-pub record PolynomialChanged (m n a b : ℕ) (f f′ : List ℕ) : Type 0 where
-  pub reduced : Reduced m f′
-  pub changed : Changed m n a b f f′
-
--- h′ reduced, and h(b) modulo m
-pub record RightChanged (m s a b : ℕ) (h h′ : List ℕ) (origin : ℕ) : Type 0 where
-  pub reduced : Reduced m h′
-  pub right : ChangedRight m s a b h h′
-  pub origin-is : origin ≡ value h b % m
-
--- both parts reduced, and the changed pair, with no refusal
-pub record PairChanged (m r s a b : ℕ) (g h : List ℕ) (x : Parts) : Type 0 where
-  pub answered : x .outcome ≡ Answered
-  pub reduced-left : Reduced m (x .left)
-  pub reduced-right : Reduced m (x .right)
-  pub pair : ChangedPair m r s a b g h (x .left) (x .right)
-
 -- No. 8
 abbrev pub improper : Outcome
 improper = refusal Neither reason.Change
@@ -96,10 +72,11 @@ improper = refusal Neither reason.Change
 abbrev pub unchanged : Outcome → Made
 unchanged o = record { outcome = o; change = identity }
 
--- 1, then 8 for either change; else the one change (a·a2, a·b2 + b)
+-- 1, then 8 for the first change, then 8 for the second; else the one change (a·a2, a·b2 + b)
 pub data Combines (m : ℕ) (c d : Change) (x : Made) : Type 0 where
   refused : {r : Refusal} → check-modulus m ≡ Refused r → x ≡ unchanged (Refused r) → Combines m c d x
-  not-proper : check-modulus m ≡ Answered → (Proper m c → Proper m d → ⊥) → x ≡ unchanged improper → Combines m c d x
+  first-improper : check-modulus m ≡ Answered → (Proper m c → ⊥) → x ≡ unchanged improper → Combines m c d x
+  second-improper : check-modulus m ≡ Answered → Proper m c → (Proper m d → ⊥) → x ≡ unchanged improper → Combines m c d x
   combined : check-modulus m ≡ Answered → Proper m c → Proper m d
       → x ≡ record { outcome = Answered; change = combined-change m c d }
       → Combines m c d x

@@ -5,22 +5,20 @@
 //   change_pair            h′ = a^(-s)·(h(a·x + b) - h(b)), g′ = a^(-n)·g(a^s·x + h(b))
 ghost use mathlib.Core.Path.{_≡_};
 ghost use Prim.Native.Nat.{_<_};
-ghost use lib.ListN.{length};
 ghost use Rattle.algebra.specs.Number.{Modulus};
-ghost use Rattle.algebra.specs.Polynomial.{scaled, terms, reduced, Held};
 ghost use Rattle.polynomial.specs.Moduli.{modulus};
-ghost use Rattle.residue.specs.Ready.{Ready};
-ghost use Rattle.change.specs.Moving.{Lined, moved as moved-of};
-ghost use Rattle.change.specs.Changing.{made, unchanged as unchanged-beside, improper as improper-outcome, combined-change, Tests, Inverts, Undone, PolynomialChanged, RightChanged, PairChanged, Combines, Undoing, ChangesPolynomial, ChangesPair};
+ghost use Rattle.reciprocal.specs.Ready.{Ready};
+ghost use Rattle.moving.specs.Moving.{Inverts};
+ghost use Rattle.change.specs.Changing.{made, unchanged as unchanged-beside, improper as improper-outcome, combined-change, Tests, Undone, Combines, Undoing, ChangesPolynomial, ChangesPair};
+use inverse::Inverse;
 use polynomial::Answer;
 use polynomial::Coefficients;
 use polynomial::Parts;
 use polynomial::TERMS;
+use reciprocal::Divisor;
 use refusal::Concerns;
 use refusal::Outcome;
 use refusal::Reason;
-use residue::Divisor;
-use residue::Inverse;
 
 // x becomes unit * x + origin.
 pub struct Change {
@@ -57,7 +55,7 @@ fn proper(c: Change, m: u64) -> Tested
             inverse: 0,
         };
     }
-    match residue::invert(c.unit as u64, m) {
+    match inverse::invert(c.unit as u64, m) {
         Inverse::Of(u) => Tested {
             proper: true,
             inverse: u,
@@ -93,7 +91,7 @@ fn combined(first: Change, second: Change, m: Divisor) -> Change
 {
     Change {
         unit: residue::multiply(first.unit, second.unit, m),
-        origin: residue::two_products(first.unit, second.origin, first.origin, 1, m),
+        origin: inner::two_products(first.unit, second.origin, first.origin, 1, m),
     }
 }
 
@@ -139,7 +137,7 @@ impl Change {
         }
         Made {
             outcome: Outcome::Answered,
-            change: combined(first, second, residue::made_ready(m)),
+            change: combined(first, second, reciprocal::made_ready(m)),
         }
     }
 
@@ -158,99 +156,8 @@ impl Change {
         }
         Made {
             outcome: Outcome::Answered,
-            change: undone(c, t.inverse, residue::made_ready(m)),
+            change: undone(c, t.inverse, reciprocal::made_ready(m)),
         }
-    }
-}
-
-// b + a·x.
-fn line(a: u32, b: u32) -> Coefficients
-    ensures { λ l. ⌜ Lined a b l ⌝ }
-{
-    let mut l = [0; TERMS];
-    l[0] = b;
-    l[1] = a;
-    l
-}
-
-// f(a·x + b), for f of degree n.
-fn moved(f: &[u32], n: usize, a: u32, b: u32, m: Divisor) -> Coefficients
-    requires { ⌜ Ready m × Held (m .number) n (now f) ⌝ }
-    ensures { λ p. ⌜ p ≡ moved-of (m .number) (now (f .entry)) a b ⌝ }
-{
-    let l = line(a, b);
-    composition::compose(f, &l, n, 1, m)
-}
-
-// Each coefficient times c.
-fn multiple(p: &[u32], c: u32, m: Divisor) -> Coefficients
-    requires { ⌜ Ready m × (length (now p) ≡ terms) ⌝ }
-    ensures { λ q. ⌜ q ≡ reduced (m .number) (scaled c (now (p .entry))) ⌝ }
-{
-    let mut q = [0; TERMS];
-    for k in 0..TERMS {
-        q[k] = residue::multiply(c, p[k], m);
-    }
-    q
-}
-
-// a^(-n)·f(a·x + b), by the inverse u of a.
-fn changed(f: &[u32], n: usize, a: u32, b: u32, u: u32, m: Divisor) -> Coefficients
-    requires { ⌜ Inverts (m .number) a u × Held (m .number) n (now f) × Ready m ⌝ }
-    ensures { λ r. ⌜ PolynomialChanged (m .number) n a b (now (f .entry)) r ⌝ }
-{
-    let p = moved(f, n, a, b, m);
-    multiple(&p, residue::power(u, n, m), m)
-}
-
-// The right part's share: h′, and h(b) which goes to the left part.
-struct Right {
-    part: Coefficients,
-    origin: u32,
-}
-
-// h′ = a^(-s)·(h(a·x + b) - h(b)): the constant of h(a·x + b) is h(b).
-fn changed_right(h: &[u32], s: usize, a: u32, b: u32, u: u32, m: Divisor) -> Right
-    requires { ⌜ Inverts (m .number) a u × Held (m .number) s (now h) × Ready m ⌝ }
-    ensures { λ r. ⌜ RightChanged (m .number) s a b (now (h .entry)) (r .part) (r .origin) ⌝ }
-{
-    let mut p = moved(h, s, a, b, m);
-    let origin = p[0];
-    p[0] = 0;
-    Right {
-        part: multiple(&p, residue::power(u, s, m), m),
-        origin,
-    }
-}
-
-// The changed pair.
-fn changed_pair(
-    g: &[u32],
-    r: usize,
-    h: &[u32],
-    s: usize,
-    a: u32,
-    b: u32,
-    u: u32,
-    m: Divisor,
-) -> Parts
-    requires { ⌜ Inverts (m .number) a u × Held (m .number) r (now g) × Held (m .number) s (now h) × Ready m ⌝ }
-    ensures { λ x. ⌜ PairChanged (m .number) r s a b (now (g .entry)) (now (h .entry)) x ⌝ }
-{
-    let right = changed_right(h, s, a, b, u, m);
-    let part = right.part;
-    let left = changed(
-        g,
-        r,
-        residue::power(a, s, m),
-        right.origin,
-        residue::power(u, s, m),
-        m,
-    );
-    Parts {
-        outcome: Outcome::Answered,
-        left,
-        right: part,
     }
 }
 
@@ -270,7 +177,14 @@ pub fn change_polynomial(m: u32, f: Coefficients, c: Change) -> Answer
     }
     Answer {
         outcome: Outcome::Answered,
-        polynomial: changed(&f, n, c.unit, c.origin, t.inverse, residue::made_ready(m)),
+        polynomial: moving::changed(
+            &f,
+            n,
+            c.unit,
+            c.origin,
+            t.inverse,
+            reciprocal::made_ready(m),
+        ),
     }
 }
 
@@ -289,7 +203,7 @@ pub fn change_pair(m: u32, g: Coefficients, h: Coefficients, c: Change) -> Parts
     if !t.proper {
         return polynomial::no_parts(improper());
     }
-    changed_pair(
+    moving::changed_pair(
         &g,
         r,
         &h,
@@ -297,6 +211,6 @@ pub fn change_pair(m: u32, g: Coefficients, h: Coefficients, c: Change) -> Parts
         c.unit,
         c.origin,
         t.inverse,
-        residue::made_ready(m),
+        reciprocal::made_ready(m),
     )
 }

@@ -26,8 +26,8 @@ use Rattle.algebra.proofs.Numbers.{sum-ext, sum-clip, sum-zeros}
 use Rattle.algebra.proofs.Coefficients.{coef-plus, coef-times, coef-times-zero}
 use Rattle.algebra.proofs.Polynomials.{_⨾_, same-refl, same-sym, plus-same, times-same, after-same}
 use Rattle.algebra.proofs.Reduction.{reduced-reduced, reduced-same, reduced-place, reduced-equal, reduced-above}
-use Rattle.residue.specs.Residue.{inner}
-use Rattle.residue.proofs.Inner.{inner-none, inner-more, inner-extensional}
+use Rattle.inner.specs.Inner.{inner}
+use Rattle.inner.proofs.Inner.{inner-none, inner-more, inner-extensional}
 use Rattle.polynomial.proofs.Filling.{zeros}
 use Rattle.composition.specs.Composition.{composition, Ends, Composable, Room}
 

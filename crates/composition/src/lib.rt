@@ -3,11 +3,11 @@
 ghost use mathlib.Core.Path.{_≡_};
 ghost use mathlib.Core.List.{[], _∷_};
 ghost use Rattle.algebra.specs.Polynomial.{plus, times, reduced};
-ghost use Rattle.residue.specs.Ready.{Ready};
+ghost use Rattle.reciprocal.specs.Ready.{Ready};
 ghost use Rattle.composition.specs.Composition.{composition, Composable, Room};
 use polynomial::Coefficients;
 use polynomial::TERMS;
-use residue::Divisor;
+use reciprocal::Divisor;
 
 // One step for a line h, as in every change: two products a place, and no loop over h.
 fn line_step(p: &mut [u32], c: u32, h: &[u32], d: usize, m: Divisor)
@@ -16,10 +16,10 @@ fn line_step(p: &mut [u32], c: u32, h: &[u32], d: usize, m: Divisor)
 {
     let mut k = d;
     while k != 0 {
-        p[k] = residue::two_products(h[0], p[k], h[1], p[k - 1], m);
+        p[k] = inner::two_products(h[0], p[k], h[1], p[k - 1], m);
         k -= 1;
     }
-    p[0] = residue::two_products(h[0], p[0], c, 1, m);
+    p[0] = inner::two_products(h[0], p[0], c, 1, m);
 }
 
 // One step: p becomes c + h·p, of a degree up to d. With c = 0 it is one power of h more, for the left part.
@@ -33,10 +33,10 @@ pub fn step(p: &mut [u32], c: u32, h: &[u32], s: usize, d: usize, m: Divisor)
     }
     let mut k = d;
     while k != 0 {
-        p[k] = residue::inner_product(h, p, k, 0, polynomial::smaller(k, s) + 1, m);
+        p[k] = inner::inner_product(h, p, k, 0, polynomial::smaller(k, s) + 1, m);
         k -= 1;
     }
-    p[0] = residue::two_products(h[0], p[0], c, 1, m);
+    p[0] = inner::two_products(h[0], p[0], c, 1, m);
 }
 
 // g(h), for g that ends at x^r and h that ends at x^s; one polynomial is held at a time.

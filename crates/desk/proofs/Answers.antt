@@ -46,7 +46,7 @@ use Rattle.text.specs.Answers.{ReadsText}
 use Rattle.text.proofs.Promises as text-law
 use Rattle.pair.specs.declared.Verdict.{Verdict}
 use Rattle.pair.proofs.Reports.{quick-determined}
-use Rattle.desk.specs.Face.{told, said, QuickAs, CheckedAs, AnswersAs, PartsAs, MadeAs, ChainedAs, NumberedAs, ChosenAs, WrittenAs, ReadAs, TextAs, start-of, place-of}
+use Rattle.desk.specs.Face.{told, said, QuickAs, CheckedAs, AnswersAs, PartsAs, MadeAs, ChainedAs, NumberedAs, ChosenAs, SheetAs, ReadAs, TextAs, start-of, place-of}
 use Rattle.desk.specs.declared.Refused.{Refused}
 
 -- where an operation's contract determines its answer, so does that of its face
@@ -137,7 +137,7 @@ pub face-part : (xs : List ℕ) (i : ℕ) {place place′ : List ℕ} → place 
 face-part xs i e e′ = e ∙ sym e′
 
 -- with every byte of the sheet
-pub face-write-sheet : {w : ℕ} {xs b c d : List ℕ} {r r′ : Refused} → WrittenAs w xs b c r → WrittenAs w xs b d r′ → (r ≡ r′) × (c ≡ d)
+pub face-write-sheet : {w : ℕ} {xs b c d : List ℕ} {r r′ : Refused} → SheetAs w xs b c r → SheetAs w xs b d r′ → (r ≡ r′) × (c ≡ d)
 face-write-sheet x y = let (e, sheet) = write-determined (x .is) (y .is) in (x .refused ∙ ap told e ∙ sym (y .refused), sheet)
 
 -- with every word of the area

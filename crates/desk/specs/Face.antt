@@ -10,7 +10,7 @@
 --   ChainedAs ..        what desk_chain returns and writes
 --   NumberedAs ..       what desk_count_chains returns and writes
 --   ChosenAs ..         what desk_nth_chain returns and writes
---   WrittenAs ..        what desk_write_sheet returns and writes
+--   SheetAs ..        what desk_write_sheet returns and writes
 --   ReadAs ..           what desk_read_sheet returns and writes
 --   TextAs ..           what desk_write_text returns and writes
 --   place-of xs i       where part i stands in the area xs: its start and its length, 0 and 0 if it is empty
@@ -108,7 +108,7 @@ pub record ChosenAs (m : ℕ) (f : List ℕ) (j : ℕ) (xs ys : List ℕ) (r : f
   pub numbers-are : numbers ≡ chosen .parts ∷ chosen .price ∷ []
 
 -- some outcome of the writer, in numbers; and the sheet afterwards
-pub record WrittenAs (w : ℕ) (xs b c : List ℕ) (r : face.Refused) : Type 0 where
+pub record SheetAs (w : ℕ) (xs b c : List ℕ) (r : face.Refused) : Type 0 where
   pub outcome : Outcome
   pub is : WritesSheet w xs b c outcome
   pub refused : r ≡ told outcome

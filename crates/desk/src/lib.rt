@@ -4,7 +4,7 @@ ghost use Rattle.polynomial.specs.Moduli.{modulus};
 ghost use Rattle.pair.specs.Pairing.{compose, LeftPartOf, Splits};
 ghost use Rattle.text.specs.Answers.{ReadsText};
 ghost use Rattle.change.specs.Changing.{made, ChangesPolynomial, ChangesPair, Combines, Undoing};
-ghost use Rattle.desk.specs.Face.{told as told-of, said as said-of, QuickAs, CheckedAs, AnswersAs, PartsAs, MadeAs, ChainedAs, NumberedAs, ChosenAs, place-of, WrittenAs, ReadAs, TextAs};
+ghost use Rattle.desk.specs.Face.{told as told-of, said as said-of, QuickAs, CheckedAs, AnswersAs, PartsAs, MadeAs, ChainedAs, NumberedAs, ChosenAs, place-of, SheetAs, ReadAs, TextAs};
 use change::Change;
 use polynomial::TERMS;
 use refusal::Outcome;
@@ -263,9 +263,9 @@ pub extern "C" fn desk_part(area: &[u32], i: usize, place: &mut [usize; 2])
 // The sheet of the modulus m and the parts of an area.
 #[no_mangle]
 pub extern "C" fn desk_write_sheet(m: u32, area: &[u32], sheet: &mut [u8]) -> Refused
-    ensures { λ r. ⌜ WrittenAs m (now (area .entry)) (now (sheet .entry)) (now (sheet .exit)) r ⌝ }
+    ensures { λ r. ⌜ SheetAs m (now (area .entry)) (now (sheet .entry)) (now (sheet .exit)) r ⌝ }
 {
-    let outcome = sheet::write(m, area, sheet);
+    let outcome = sheet_writer::write(m, area, sheet);
     told(outcome)
 }
 
@@ -279,7 +279,7 @@ pub extern "C" fn desk_read_sheet(
 ) -> Refused
     ensures { λ r. ⌜ ReadAs (now (sheet .entry)) (now (area .entry)) (now (area .exit)) r (now (modulus .exit)) (now (f .exit)) ⌝ }
 {
-    let x = sheet::read(sheet, area);
+    let x = sheet_reader::read(sheet, area);
     let p = x.polynomial;
     *modulus = x.modulus;
     *f = p;
@@ -292,7 +292,7 @@ pub extern "C" fn desk_read_sheet(
 pub extern "C" fn desk_read_text(m: u32, text: &[u8], f: &mut [u32; TERMS]) -> Refused
     ensures { λ r. ⌜ AnswersAs (ReadsText (modulus m) (now (text .entry))) r (now (f .exit)) ⌝ }
 {
-    let x = text::read(m, text);
+    let x = text_reader::read(m, text);
     let p = x.polynomial;
     *f = p;
     let outcome = x.outcome;
@@ -309,7 +309,7 @@ pub extern "C" fn desk_write_text(
 ) -> Refused
     ensures { λ r. ⌜ TextAs (modulus m) (now (f .entry)) (now (area .entry)) (now (area .exit)) r (now (length .exit)) ⌝ }
 {
-    let x = text::write(m, *f, area);
+    let x = text_writer::write(m, *f, area);
     *length = x.length;
     let outcome = x.outcome;
     told(outcome)

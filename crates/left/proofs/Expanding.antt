@@ -8,7 +8,7 @@
 --   reached-none, reached-first, reached-more    before the first digit, after it, and k digits further
 --   reached-no, reached-last                     and then one that is no constant, or all digits of the quotient
 --   digits-long                                  where there is a quotient beside the first digit
---   remainder-asked, raised-asked, reached-asked     a remainder, by h^k, a quotient: what may be divided again
+--   reached-asked                                a quotient may be divided again
 use mathlib.Core.Path.{_≡_, refl, sym, ap, _∙_, subst}
 use mathlib.Core.Logic.{_↔_, Iff·trans}
 use mathlib.Core.Bool.{Bool, true, false, true≢false, false≢true}
@@ -22,10 +22,12 @@ use lib.Seq.{getD-take, getD-drop, length-take-le, drop-at, drop-drop}
 use Rattle.algebra.specs.Polynomial.{coef, after, Same, Held}
 use Rattle.algebra.proofs.Polynomials.{_⨾_, same-refl, same-sym, zero-nothing, plus-same, plus-comm, plus-nothing, times-comm, times-nothing, after-same, constant-after}
 use Rattle.algebra.proofs.Division.{after-short, parts-after, left-part-unique}
-use Rattle.left.specs.Division.{DivisionAsked, Divided, Raised, ConstantIs, Begins, Lowest, Digits}
+use Rattle.division.specs.Division.{DivisionAsked, Divided, Raised, ConstantIs}
+use Rattle.division.proofs.Asked.{remainder-asked, raised-asked}
+use Rattle.left.specs.Digits.{Begins, Lowest, Digits}
 use Rattle.polynomial.proofs.Below.{take-below, join-below}
-use Rattle.left.proofs.Pieces.{front, back}
-use Rattle.left.proofs.Raising.{raised-one}
+use Rattle.division.proofs.Pieces.{front, back}
+use Rattle.division.proofs.Raising.{raised-one}
 
 -- the first term of g, after anything
 first-term : {m : ℕ} → 0 < m → (g h : List ℕ) → Same m (after (take 1 g) h) (coef g 0 ∷ [])
@@ -82,23 +84,6 @@ flat-digits {m} {s} {h} {p} {t} d l flat = record { long = refl; below = d .belo
     none : (i : ℕ) × (0 < i) × ¬ (coef p i ≡ 0) → (g : List ℕ) → Same m p (after g h) → ⊥
     none (zero, b, n) g w = N.not-suc-le-zero b
     none (suc i, b, n) g w = n (sym (N.mod-eq-of-lt (d .below (suc i))) ∙ apart g .0 w .0 .at (suc i) ∙ N.zero-mod m)
-
--- a remainder may be divided again
-pub remainder-asked : {m s w : ℕ} (v : ℕ) {h b p q : List ℕ} → DivisionAsked m s h p → Divided m b w p q → 0 < v → v ≤ length p → DivisionAsked m s h (take v q)
-remainder-asked {m} {s} {w} v {h} {b} {p} {q} d c above l =
-    let wide : length (take v q) ≡ v = length-take-le v q (rw (c .long) l) in
-    record {
-      modulus = d .modulus;
-      right = d .right;
-      above-zero = d .above-zero;
-      below = take-below (omega (arith, d .modulus .above-one)) v q (λ i _. c .below i);
-      some = rw wide above;
-      inside = omega (arith, wide, d .inside);
-    }
-
--- and what h divides, h^k does
-pub raised-asked : {m s k : ℕ} {h b p : List ℕ} → DivisionAsked m s h p → Raised m h s k b → 0 < k → DivisionAsked m (k * s) b p
-raised-asked {s = s} {k = k} d r l = record { modulus = d .modulus; right = r .held; above-zero = omega (arith, d .above-zero, N.mul-le-mul-right {m = 1} {n = k} s l); below = d .below; some = d .some; inside = d .inside }
 
 -- the division by h^k
 module _ {m s w : ℕ} (k : ℕ) {h b p q : List ℕ} (d : DivisionAsked m s h p) (raised : Raised m h s k b) (ew : w ≡ k * s) (l : w ≤ length p) (divided : Divided m b w p q) where

@@ -21,9 +21,10 @@ use Rattle.algebra.proofs.Polynomials.{_⨾_, same-sym}
 use Rattle.algebra.proofs.Coefficients.{after-end}
 use Rattle.algebra.proofs.Reduction.{reduced-above}
 use Rattle.left.specs.Left.{LeftPart, NoLeft, LeftAsked}
-use Rattle.left.specs.Division.{DivisionAsked, Digits}
+use Rattle.division.specs.Division.{DivisionAsked}
+use Rattle.left.specs.Digits.{Digits}
 use Rattle.polynomial.proofs.Below.{take-below}
-use Rattle.left.proofs.Pieces.{front, back}
+use Rattle.division.proofs.Pieces.{front, back}
 
 -- the constant of digit i, and its number, are within the limit
 pub constant-place : {r s i : ℕ} → 0 < s → r * s ≤ limit → i ≤ r → (i * s ≤ limit) × (i ≤ limit)

@@ -1,3 +1,2 @@
-pub mod Division
+pub mod Digits
 pub mod Left
-pub mod Report

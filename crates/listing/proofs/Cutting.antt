@@ -5,7 +5,7 @@
 use mathlib.Core.Path.{_≡_, refl, sym, ap, _∙_}
 use mathlib.Core.Logic.{_⊎_, inl, inr, ⊎-elim}
 use mathlib.Core.List.{List, [], _∷_, _++_, append-assoc, append-nil}
-use Prim.Native.Nat.{ℕ, zero, suc, _+_, _*_, _-_, _<_, _≤_}
+use Prim.Native.Nat.{ℕ, zero, suc, _+_, _*_, _-_, _<_, _≤_, min}
 use native.Mathlib.Omega.{arith}
 use native.Mathlib.Nat.{eq-or-lt-of-le, mul-suc, mul-le-mul-left}
 use lib.ListN.{length, take, drop, set, length-drop, drop-of-length-le}
@@ -15,7 +15,7 @@ use Rattle.digits.specs.Digits.{Put}
 use Rattle.digits.proofs.Text.{put-append, put-most}
 use Rattle.record.specs.Record.{record-bytes}
 use Rattle.listing.specs.Text.{most-line}
-use Rattle.listing.specs.Listing.{Lines, none, more, LineIn, LinesIn, most-records, most-lines, RecordEnd}
+use Rattle.listing.specs.Listing.{Lines, none, more, LineIn, LinesIn, most-records, most-lines}
 
 -- ---- stores into a part, said of the whole
 
@@ -50,7 +50,18 @@ take-either l m n a b = take-all m l a ∙ sym (take-all n l b)
 drop-either : (l : List ℕ) (m n : ℕ) → length l ≤ m → length l ≤ n → drop m l ≡ drop n l
 drop-either l m n a b = drop-of-length-le l a ∙ sym (drop-of-length-le l b)
 
-module _ (s : List ℕ) (at r : ℕ) (e : RecordEnd at (length s) r) where
+-- a whole record on, or where the bytes end
+record Ends (at n r : ℕ) : Type 0 where
+  after : at < r
+  short : r ≤ at + record-bytes
+  within : r ≤ n
+  full : r < n → r ≡ at + record-bytes
+
+ends : {at n r : ℕ} → at < n → r ≡ min (at + record-bytes) n → Ends at n r
+unfolding record-bytes terms limit
+ends l e = record { after = omega arith; short = omega arith; within = omega arith; full = λ h. omega arith }
+
+module _ (s : List ℕ) (at r : ℕ) (e : Ends at (length s) r) where
   -- either the record is whole, or it ends where the bytes end
   either : (r ≡ at + record-bytes) ⊎ (length s ≡ r)
   either = ⊎-elim (λ q. inr (sym q)) (λ l. inl (e .full l)) (eq-or-lt-of-le (e .within))
@@ -108,11 +119,12 @@ module _ (s : List ℕ) (number : ℕ) (before : List ℕ) where
         few n = let d : k - number ≤ most-records = omega (arith, g .passed, g .inside) in omega (arith, mul-le-mul-left n d)
 
     -- a turn
-    module _ (lt : at < length s) {r : ℕ} (e : RecordEnd at (length s) r) {ys : List ℕ} {q : ℕ} (z : LineIn (take (r - at) (drop at s)) k (take (length now - w) (drop w now)) ys q) where
+    module _ (lt : at < length s) {r : ℕ} (is : r ≡ min (at + record-bytes) (length s)) {ys : List ℕ} {q : ℕ} (z : LineIn (take (r - at) (drop at s)) k (take (length now - w) (drop w now)) ys q) where
       pub turned : Progress s number before r (k + 1) (w + q) (take w now ++ (ys ++ drop (length now - w) (drop w now)))
       unfolding record-bytes terms limit
       turned =
           let j : at ≡ record-bytes * (k - number) = g .whole lt in
+          let e = ends lt is in
           record {
             inside = e .within;
             from = omega (arith, g .from);

@@ -1,24 +1,21 @@
 -- The listing: the lines of records, as 01 has them.
 --
---   blank                      an area of zeros
+--   zero-area                  an area of zeros
 --   chain-numbers n ys x       the numbers that a chain's answer x gives in a line; n is the degree of f, ys the area afterwards
 --   Line b k text              text is the line of the record whose bytes are b and whose number is k
 --   Lines b k text             text is the lines of the records that b is cut into, numbered from k on
---   number-of o                01's number of an outcome: 0 if it is an answer
 --   LineIn b k xs ys r         the line of b stands at the start of ys, which was xs, and r is its length
 --   AcceptedIn m f k xs ys r   the same for a record whose check accepts its words m and f
 --   most-records, most-lines   how many records are listed at a time, and the most bytes of their lines
 --   LinesIn b k xs ys r        the lines of b stand at the start of ys, which was xs, and r is their length
---   RecordEnd at n r           r is where the record that starts at `at` ends, in n bytes
 use mathlib.Core.Path.{_≡_}
 use mathlib.Core.List.{List, [], _∷_, _++_}
-use Prim.Native.Nat.{ℕ, _+_, _*_, _<_, _≤_}
+use Prim.Native.Nat.{ℕ, _+_, _*_, _<_}
 use lib.ListN.{length, take, drop, replicate}
 use Rattle.algebra.specs.Number.{table}
 use Rattle.algebra.specs.Polynomial.{degree}
 use Rattle.refusal.specs.Refusal.{number}
 use Rattle.refusal.specs.declared.Refusal.{Refusal}
-use Rattle.refusal.specs.declared.Outcome.{Outcome}
 use Rattle.refusal.specs.declared.Outcome.the-variants.{Answered, Refused}
 use Rattle.digits.specs.Digits.{Put}
 use Rattle.polynomial.specs.Moduli.{modulus}
@@ -29,8 +26,8 @@ use Rattle.record.specs.Record.{word, record-bytes, coefficients, check-record}
 use Rattle.listing.specs.Text.{most-line, fields}
 
 -- the area that the listing lends to a chain
-abbrev pub blank : List ℕ
-blank = replicate area-words 0
+abbrev pub zero-area : List ℕ
+zero-area = replicate area-words 0
 
 -- of a refusal its number alone; of an answer 0, the degree, parts, tries, price, and the degrees of the parts in their places
 abbrev pub chain-numbers : ℕ → List ℕ → Chained → List ℕ
@@ -42,18 +39,13 @@ chain-numbers n ys x = elim (x .outcome) [
 -- a record that its check refuses gives the refusal's number; any other the numbers of its chain
 pub data Line (b : List ℕ) (k : ℕ) (text : List ℕ) : Type 0 where
   refused : {r : Refusal} → check-record b ≡ Refused r → text ≡ fields k (number (r .reason) ∷ []) → Line b k text
-  chained : {x : Chained} {ys : List ℕ} → check-record b ≡ Answered → ChainOf (modulus (word b 0)) (coefficients b) blank ys x
+  chained : {x : Chained} {ys : List ℕ} → check-record b ≡ Answered → ChainOf (modulus (word b 0)) (coefficients b) zero-area ys x
       → text ≡ fields k (chain-numbers (degree (coefficients b)) ys x) → Line b k text
 
 -- no line for no bytes; the last record may be short
 pub data Lines : List ℕ → ℕ → List ℕ → Type 0 where
   none : {b : List ℕ} {k : ℕ} {text : List ℕ} → b ≡ [] → text ≡ [] → Lines b k text
   more : {b : List ℕ} {k : ℕ} {t u text : List ℕ} → 0 < length b → Line (take record-bytes b) k t → Lines (drop record-bytes b) (k + 1) u → text ≡ t ++ u → Lines b k text
-
--- 0 for an answer
-abbrev pub number-of : Outcome → ℕ
-number-of Answered = 0
-number-of (Refused r) = number (r .reason)
 
 -- the line of a record in a buffer, and nothing else has changed
 pub record LineIn (b : List ℕ) (k : ℕ) (xs ys : List ℕ) (r : ℕ) : Type 0 where
@@ -65,7 +57,7 @@ pub record LineIn (b : List ℕ) (k : ℕ) (xs ys : List ℕ) (r : ℕ) : Type 0
 pub record AcceptedIn (m : ℕ) (f : List ℕ) (k : ℕ) (xs ys : List ℕ) (r : ℕ) : Type 0 where
   pub answer : Chained
   pub area : List ℕ
-  pub chain : ChainOf (modulus m) f blank area answer
+  pub chain : ChainOf (modulus m) f zero-area area answer
   pub put : Put xs 0 (fields k (chain-numbers (degree f) area answer)) most-line ys r
 
 -- so many records go through the program's memory at a time
@@ -81,10 +73,3 @@ pub record LinesIn (b : List ℕ) (k : ℕ) (xs ys : List ℕ) (r : ℕ) : Type 
   pub text : List ℕ
   pub lines : Lines b k text
   pub put : Put xs 0 text most-lines ys r
-
--- a whole record on, or where the bytes end
-pub record RecordEnd (at n r : ℕ) : Type 0 where
-  pub after : at < r
-  pub short : r ≤ at + record-bytes
-  pub within : r ≤ n
-  pub full : r < n → r ≡ at + record-bytes

@@ -3,6 +3,7 @@ ghost use mathlib.Core.Path.{_≡_};
 ghost use mathlib.Core.List.{[], _∷_, _++_};
 ghost use Prim.Native.Nat.{_+_, _*_, _<_, _≤_, _^_};
 ghost use lib.ListN.{length};
+ghost use Rattle.refusal.specs.Refusal.{number-of};
 ghost use Rattle.algebra.specs.Number.{table};
 ghost use Rattle.algebra.specs.Polynomial.{degree as degree-of};
 ghost use Rattle.refusal.specs.declared.Outcome.the-variants.{Answered};
@@ -12,7 +13,7 @@ ghost use Rattle.polynomial.specs.Checks.{check-one};
 ghost use Rattle.digits.specs.Digits.{decimal, Put};
 ghost use Rattle.area.specs.Area.{most-parts, area-words, place};
 ghost use Rattle.record.specs.Record.{record-bytes};
-ghost use Rattle.listing.specs.Listing.{number-of, LineIn, AcceptedIn, most-records, most-lines, LinesIn, RecordEnd};
+ghost use Rattle.listing.specs.Listing.{LineIn, AcceptedIn, most-records, most-lines, LinesIn};
 ghost use Rattle.listing.specs.Text.{most-field, before-degrees, most-line, spaced as spaced-of, fields};
 use binomial::ENTRIES;
 use polynomial::Coefficients;
@@ -138,7 +139,7 @@ fn accepted_line(
     ensures { λ r. ⌜ AcceptedIn m f number (now (out .entry)) (now (out .exit)) r ⌝ }
 {
     let mut area = [0; area::WORDS];
-    let d = residue::made_ready(polynomial::modulus(m));
+    let d = reciprocal::made_ready(polynomial::modulus(m));
     let c = chain::accepted(f, n, &mut area, binomials, d);
     let o = c.outcome;
     if refusal::refuses(o) {
@@ -167,18 +168,6 @@ pub fn line(bytes: &[u8], number: u32, binomials: &[u64; ENTRIES], out: &mut [u8
     accepted_line(c.modulus, f, c.degree, number, binomials, out)
 }
 
-// Where the record that starts at `at` ends, in n bytes.
-fn record_end(at: usize, n: usize) -> usize
-    requires { ⌜ at < n ⌝ }
-    ensures { λ r. ⌜ RecordEnd at n r ⌝ }
-{
-    if n - at > record::BYTES {
-        at + record::BYTES
-    } else {
-        n
-    }
-}
-
 // The lines of the records that s is cut into, of which the last may be short; answers their length. The table of binomials is lent:
 // a program fetches it once.
 pub fn lines(s: &[u8], number: u32, binomials: &[u64; ENTRIES], out: &mut [u8]) -> usize
@@ -190,7 +179,7 @@ pub fn lines(s: &[u8], number: u32, binomials: &[u64; ENTRIES], out: &mut [u8]) 
     let mut k = number;
     let mut w = 0;
     while at < s.len() {
-        let end = record_end(at, s.len());
+        let end = polynomial::smaller(at + record::BYTES, s.len());
         w += line(&s[at..end], k, binomials, &mut out[w..]);
         at = end;
         k += 1;

@@ -23,7 +23,6 @@ use Rattle.polynomial.specs.Answers.{nothing, no-parts}
 use Rattle.polynomial.specs.declared.Answer.{Answer}
 use Rattle.polynomial.specs.declared.Parts.{Parts}
 use Rattle.left.specs.Left.{LeftAnswer}
-use Rattle.left.specs.Left as left
 use Rattle.composition.specs.Composition.{composition}
 use Rattle.pair.specs.Pairing.{fits, compose, check-left, LeftPartOf, check-split, Splits, SplitAnswer}
 use Rattle.pair.specs.Pairing as of
@@ -68,8 +67,7 @@ module _ (m : ℕ) (f h : List ℕ) {n s : ℕ} {o : Outcome} (o-is : o ≡ chec
     left-passed t = fit-passed o-is fine (same ∙ t)
 
     pub left-told : {x : Answer} → b ≡ true → LeftAnswer m f (n / s) h x → LeftPartOf m f h x
-    left-told t (left.none a e) = of.none (left-passed t) (rw (← n-is, ← s-is) a) e
-    left-told t (left.found {g = g} a e) = of.found {g = g} (left-passed t) (rw (← n-is, ← s-is) a) e
+    left-told t a = of.answered (left-passed t) (rw (← n-is, ← s-is) a)
 
 -- the checks of a split
 module _ (m : ℕ) (f : List ℕ) (r : ℕ) {n : ℕ} {o : Outcome} (o-is : o ≡ check-one m f) (n-is : n ≡ degree f) where
@@ -98,9 +96,7 @@ module _ (m : ℕ) (f : List ℕ) (r : ℕ) {o : Outcome} (o-is : o ≡ check-sp
   split-refused t e = let (q, w) = a-refusal o t in of.refused (sym o-is ∙ w) (e ∙ ap no-parts w)
 
   pub split-told : {n : ℕ} {x : Parts} → n ≡ degree f → is-refused o ≡ false → SplitAnswer m f r (n / r) x → Splits m f r x
-  split-told n-is t (of.shared a e) = of.shared (passed t) a e
-  split-told n-is t (of.none a p e) = of.none (passed t) a (rw (← n-is) p) e
-  split-told n-is t (of.found {g = g} {h = h} a p e) = of.found {g = g} {h = h} (passed t) a (rw (← n-is) p) e
+  split-told n-is t a = of.answered (passed t) (rw (← n-is) a)
 
   pub quick-refused : {x : Verdict} → is-refused o ≡ true → x ≡ unasked o → QuickOf m f r x
   quick-refused t e = let (q, w) = a-refusal o t in quick.refused (sym o-is ∙ w) (e ∙ ap unasked w)

@@ -3,8 +3,8 @@
 --   fits-positive      what fits is not 0
 --   fits-degrees       what fits, with what it leaves, are the degrees of a pair
 --   degrees-fit        the degrees of a pair fit, and the quotient is the other one
-use mathlib.Core.Path.{_≡_, refl, sym, ap, _∙_}
-use mathlib.Core.Bool.{Bool, true, false, _&&_}
+use mathlib.Core.Path.{_≡_, sym, ap, _∙_}
+use mathlib.Core.Bool.{true, _&&_, and-eq-true-iff}
 use Prim.Native.Nat.{ℕ, _*_, _/_, _%_, _≤_, _<_}
 use native.Mathlib.Nat as N
 use native.Mathlib.Omega.{arith}
@@ -14,22 +14,18 @@ use Rattle.algebra.specs.Polynomial.{limit}
 use Rattle.polynomial.specs.Degrees.{Degrees}
 use Rattle.pair.specs.Pairing.{fits}
 
-both : (s t : Bool) → (s && t) ≡ true → (s ≡ true) × (t ≡ true)
-both true t h = (refl, h)
-both false t h = (h, cc)
-
 pub fits-positive : (n d : ℕ) → fits n d ≡ true → 0 < d
 unfolding fits
 fits-positive n d h =
-    let (ab, c) = both (leb 2 d && eqb (n % d) 0) (leb 2 (n / d)) h in
-    let low : 2 ≤ d = leb-true _ _ (both (leb 2 d) (eqb (n % d) 0) ab .0) in
+    let (ab, c) = and-eq-true-iff (leb 2 d && eqb (n % d) 0) (leb 2 (n / d)) .0 h in
+    let low : 2 ≤ d = leb-true _ _ (and-eq-true-iff (leb 2 d) (eqb (n % d) 0) .0 ab .0) in
     omega arith
 
 pub fits-degrees : (n d : ℕ) → fits n d ≡ true → n ≤ limit → Degrees n (n / d) d × Degrees n d (n / d)
 unfolding fits
 fits-degrees n d h l =
-    let (ab, c) = both (leb 2 d && eqb (n % d) 0) (leb 2 (n / d)) h in
-    let (a, b) = both (leb 2 d) (eqb (n % d) 0) ab in
+    let (ab, c) = and-eq-true-iff (leb 2 d && eqb (n % d) 0) (leb 2 (n / d)) .0 h in
+    let (a, b) = and-eq-true-iff (leb 2 d) (eqb (n % d) 0) .0 ab in
     let low : 2 ≤ d = leb-true _ _ a in
     let high : 2 ≤ n / d = leb-true _ _ c in
     let e : n / d * d ≡ n = exact (eqb-true _ _ b) in

@@ -33,8 +33,8 @@ use Rattle.polynomial.specs.Answers.{nothing, no-parts}
 use Rattle.polynomial.specs.declared.Answer.{Answer}
 use Rattle.polynomial.specs.declared.Parts.{Parts}
 use Rattle.left.specs.Left.{LeftPart, NoLeft, LeftAsked, LeftAnswer}
-use Rattle.left.specs.Report.{LeftReport}
-use Rattle.left.specs.Report as digits
+use Rattle.report.specs.Report.{LeftReport}
+use Rattle.report.specs.Report as digits
 use Rattle.left.specs.Left as left
 use Rattle.binomial.specs.Triangle.{rows}
 use Rattle.right.specs.Right.{RightAsked, RightPart, Root}

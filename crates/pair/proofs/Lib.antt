@@ -2,5 +2,4 @@ pub mod Fitting
 pub mod Forcing
 pub mod Answering
 pub mod Determined
-pub mod Exact
 pub mod Reports

@@ -6,10 +6,10 @@
 --   check-left m f h         1; 2, 3, 4 for f and h; 6
 --   LeftPartOf m f h x       x answers: the left part of f for the given h
 --   check-split m f r        1, 2, 3, 4; 6
+--   SplitAnswer m f r s x    what a split answers past the checks: No. 5, No. 7 or the pair
 --   Splits m f r x           x answers: f split at the left degree r
 --   SplitAsked m n r s f     what a split at r and s is given: f of degree n = r·s
 --   Opened m n r s f t       what is given where the root in t leaves a pair open
---   SplitAnswer m f r s x    what it answers: the pair, that there is none, or that r and m share a factor
 use mathlib.Core.Path.{_≡_}
 use mathlib.Core.Bool.{Bool, not, _&&_}
 use mathlib.Core.List.{List}
@@ -31,7 +31,7 @@ use Rattle.polynomial.specs.declared.Answer.{Answer}
 use Rattle.polynomial.specs.declared.Parts.{Parts}
 use Rattle.polynomial.specs.Degrees.{Degrees}
 use Rattle.composition.specs.Composition.{composition}
-use Rattle.left.specs.Left.{LeftPart, NoLeft}
+use Rattle.left.specs.Left.{LeftAnswer}
 use Rattle.right.specs.Right.{RightPart}
 use Rattle.right.specs.Rows.{Space, Upside}
 
@@ -52,25 +52,25 @@ compose m g h = beside (check-pair m g h) m g h
 unfoldable pub check-left : ℕ → List ℕ → List ℕ → Outcome
 check-left m f h = check-two m f h then refuse (not (fits (degree f) (degree h))) Neither Fit
 
--- the refusals; else No. 7 exactly if no monic g composes with h to f; else that g
+-- the refusals; else, for the left degree r = n/s, No. 7 exactly if no monic g composes with h to f, and that g if one does
 pub data LeftPartOf (m : ℕ) (f h : List ℕ) (x : Answer) : Type 0 where
-  refused : {r : Refusal} → check-left m f h ≡ Refused r → x ≡ nothing (Refused r) → LeftPartOf m f h x
-  none : check-left m f h ≡ Answered → NoLeft m f (degree f / degree h) h → x ≡ nothing (refusal Neither NoPair) → LeftPartOf m f h x
-  found : {g : List ℕ} → check-left m f h ≡ Answered → LeftPart m f (degree f / degree h) h g
-      → x ≡ record { outcome = Answered; polynomial = g } → LeftPartOf m f h x
+  refused : {e : Refusal} → check-left m f h ≡ Refused e → x ≡ nothing (Refused e) → LeftPartOf m f h x
+  answered : check-left m f h ≡ Answered → LeftAnswer m f (degree f / degree h) h x → LeftPartOf m f h x
 
 -- No. 6 of a left degree
 unfoldable pub check-split : ℕ → List ℕ → ℕ → Outcome
 check-split m f r = check-one m f then refuse (not (fits (degree f) r)) Neither Fit
 
--- the refusals; No. 5 if r and m share a factor above 1; No. 7 exactly if no monic g and h of degrees r and n/r compose to f;
--- else the pair with h(0) = 0
+-- No. 5 if r and m share a factor above 1; No. 7 exactly if no monic g and h of degrees r and s compose to f; else the pair with h(0) = 0
+pub data SplitAnswer (m : ℕ) (f : List ℕ) (r s : ℕ) (x : Parts) : Type 0 where
+  shared : (Coprime r m → ⊥) → x ≡ no-parts (refusal Neither Factor) → SplitAnswer m f r s x
+  none : Coprime r m → pair.NoPair m f r s → x ≡ no-parts (refusal Neither NoPair) → SplitAnswer m f r s x
+  found : {g h : List ℕ} → Coprime r m → NormalPair m f r s g h → x ≡ record { outcome = Answered; left = g; right = h } → SplitAnswer m f r s x
+
+-- the refusals 1 to 4 and 6; else that answer for the degrees r and s = n/r
 pub data Splits (m : ℕ) (f : List ℕ) (r : ℕ) (x : Parts) : Type 0 where
   refused : {e : Refusal} → check-split m f r ≡ Refused e → x ≡ no-parts (Refused e) → Splits m f r x
-  shared : check-split m f r ≡ Answered → (Coprime r m → ⊥) → x ≡ no-parts (refusal Neither Factor) → Splits m f r x
-  none : check-split m f r ≡ Answered → Coprime r m → pair.NoPair m f r (degree f / r) → x ≡ no-parts (refusal Neither NoPair) → Splits m f r x
-  found : {g h : List ℕ} → check-split m f r ≡ Answered → Coprime r m → NormalPair m f r (degree f / r) g h
-      → x ≡ record { outcome = Answered; left = g; right = h } → Splits m f r x
+  answered : check-split m f r ≡ Answered → SplitAnswer m f r (degree f / r) x → Splits m f r x
 
 -- what a split is given once its checks are passed
 pub record SplitAsked (m n r s : ℕ) (f : List ℕ) : Type 0 where
@@ -86,9 +86,3 @@ pub record Opened (m n r s : ℕ) (f t : List ℕ) : Type 0 where
   pub coprime : Coprime r m
   pub room : Space m t
   pub part : {h : List ℕ} → Upside s t h → RightPart m f r s h
-
--- what a split answers past the checks: No. 5, No. 7 or the pair
-pub data SplitAnswer (m : ℕ) (f : List ℕ) (r s : ℕ) (x : Parts) : Type 0 where
-  shared : (Coprime r m → ⊥) → x ≡ no-parts (refusal Neither Factor) → SplitAnswer m f r s x
-  none : Coprime r m → pair.NoPair m f r s → x ≡ no-parts (refusal Neither NoPair) → SplitAnswer m f r s x
-  found : {g h : List ℕ} → Coprime r m → NormalPair m f r s g h → x ≡ record { outcome = Answered; left = g; right = h } → SplitAnswer m f r s x

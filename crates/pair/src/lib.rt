@@ -4,21 +4,21 @@ ghost use Prim.Native.Nat.{min, _+_, _*_, _%_, _<_};
 ghost use Rattle.polynomial.specs.Moduli.{modulus};
 ghost use Rattle.polynomial.specs.Checks.{Measured};
 ghost use Rattle.binomial.specs.Triangle.{rows, triangle, HasRow};
-ghost use Rattle.residue.specs.Ready.{Ready};
+ghost use Rattle.reciprocal.specs.Ready.{Ready};
 ghost use Rattle.right.specs.Rows.{Space};
 ghost use Rattle.right.specs.Right.{Root};
 ghost use Rattle.pair.specs.Pairing.{fits as fits-of, compose as compose-of, LeftPartOf, check-split, Splits, SplitAsked, Opened, SplitAnswer};
 ghost use Rattle.pair.specs.Asking.{unasked as unasked-of, QuickOf, QuickAnswer};
 use binomial::ENTRIES;
 use binomial::ROWS;
+use inverse::Inverse;
 use polynomial::Answer;
 use polynomial::Coefficients;
 use polynomial::Parts;
+use reciprocal::Divisor;
 use refusal::Concerns;
 use refusal::Outcome;
 use refusal::Reason;
-use residue::Divisor;
-use residue::Inverse;
 
 // Whether a part of a polynomial of degree n can have degree d: d divides n, and d and n / d are at least 2.
 fn fits(n: usize, d: usize) -> bool
@@ -44,7 +44,7 @@ pub fn compose(m: u32, g: Coefficients, h: Coefficients) -> Answer
     if refusal::refuses(o) {
         return polynomial::nothing(o);
     }
-    let d = residue::made_ready(m);
+    let d = reciprocal::made_ready(m);
     Answer {
         outcome: Outcome::Answered,
         polynomial: composition::compose(&g, &h, r, s, d),
@@ -65,7 +65,7 @@ pub fn left_part(m: u32, f: Coefficients, h: Coefficients) -> Answer
     if !fits(n, s) {
         return polynomial::nothing(refusal::refused(Concerns::Neither, Reason::Fit));
     }
-    let d = residue::made_ready(m);
+    let d = reciprocal::made_ready(m);
     left::left_part(f, h, n, n / s, s, d)
 }
 
@@ -115,7 +115,7 @@ fn split_by(f: Coefficients, n: usize, r: usize, s: usize, row: &[u64], m: Divis
     requires { ⌜ SplitAsked (m .number) n r s f × HasRow r (min r (s + 1)) (now row) × Ready m ⌝ }
     ensures { λ x. ⌜ SplitAnswer (m .number) f r s x ⌝ }
 {
-    let Inverse::Of(u) = residue::invert(r as u64, m.number) else {
+    let Inverse::Of(u) = inverse::invert(r as u64, m.number) else {
         return polynomial::no_parts(refusal::refused(Concerns::Neither, Reason::Factor));
     };
     let mut t = [0; right::WORDS];
@@ -176,7 +176,7 @@ pub fn split(m: u32, f: Coefficients, r: usize) -> Parts
     if refusal::refuses(o) {
         return polynomial::no_parts(o);
     }
-    let d = residue::made_ready(m);
+    let d = reciprocal::made_ready(m);
     let s = n / r;
     let row = row_for(r, s);
     split_by(f, n, r, s, &row, d)
@@ -214,7 +214,7 @@ fn report(f: Coefficients, n: usize, r: usize, s: usize, u: u32, row: &[u64], m:
         };
     }
     let h = right::upside(&t, s);
-    let power = left::report(f, h, n, r, s, m);
+    let power = report::report(f, h, n, r, s, m);
     Verdict {
         outcome: Outcome::Answered,
         splits: power == 0,
@@ -232,10 +232,10 @@ pub fn quick(m: u32, f: Coefficients, r: usize) -> Verdict
     if refusal::refuses(o) {
         return unasked(o);
     }
-    let d = residue::made_ready(m);
+    let d = reciprocal::made_ready(m);
     let s = n / r;
     let row = row_for(r, s);
-    match residue::invert(r as u64, m) {
+    match inverse::invert(r as u64, m) {
         Inverse::Of(u) => report(f, n, r, s, u, &row, d),
         Inverse::Shared(_) => unasked(refusal::refused(Concerns::Neither, Reason::Factor)),
     }

@@ -5,10 +5,10 @@ ghost use Rattle.algebra.specs.Polynomial.{degree as degree-of};
 ghost use Rattle.polynomial.specs.Moduli.{modulus as modulus-of, check-modulus};
 ghost use Rattle.polynomial.specs.Checks.{offending as offending-power, check-polynomial, check-one, check-two, check-pair, Measured};
 ghost use Rattle.polynomial.specs.Answers.{nothing as nothing-of, no-parts as no-parts-of};
+use reciprocal::MACHINE_WORDS;
 use refusal::Concerns;
 use refusal::Outcome;
 use refusal::Reason;
-use residue::MACHINE_WORDS;
 
 // The highest degree that the desk takes.
 pub const LIMIT: usize = 126;

@@ -3,15 +3,17 @@
 --   most-listed           how many records are read at the most
 --   most-read             their bytes
 --   number-after taken    the number of the record that is next, or begun, after `taken` bytes
---   End taken room r      reading into a buffer of `room` bytes ends at index r after `taken` bytes
---   Came taken room got   what a read into it may come to
+--   Room taken bytes r    r bytes may be read into a buffer of so many bytes, after `taken`
+--   Brings taken room got how many bytes a read into a buffer of `room` bytes may bring
+--   Came taken xs ys got  what a read into the buffer xs may come to, which is ys afterwards
 --   upto kept more        how many bytes are listed where `more` have come after `kept`
 --   to-front xs from n    xs after its n elements from index `from` on were put at the front
+use mathlib.Core.Path.{_≡_}
 use mathlib.Core.Bool.{cond}
 use mathlib.Core.List.{List, _++_}
 use Prim.Native.Nat.{ℕ, _+_, _-_, _*_, _/_, _%_, _<_, _≤_}
 use lib.Dec.{eqb}
-use lib.ListN.{take, drop}
+use lib.ListN.{length, take, drop}
 use Rattle.record.specs.Record.{record-bytes}
 use Rattle.reading.specs.declared.Got.{Got}
 use Rattle.reading.specs.declared.Got.the-variants.{Bytes, Failed}
@@ -28,16 +30,21 @@ most-read = most-listed * record-bytes
 unfoldable pub number-after : ℕ → ℕ
 number-after taken = taken / record-bytes + 1
 
--- behind the bytes of the record that is begun there is room, and no byte of it lies past the last record that is read
-pub record End (taken room r : ℕ) : Type 0 where
-  pub behind : taken % record-bytes < r
-  pub within : r ≤ room
-  pub listed : taken + r ≤ most-read + taken % record-bytes
+-- they have room behind the bytes of the record that is begun, and none of them lies past the last record that is read
+pub record Room (taken bytes r : ℕ) : Type 0 where
+  pub some : 0 < r
+  pub behind : taken % record-bytes + r ≤ bytes
+  pub listed : taken + r ≤ most-read
 
 -- so many bytes have room behind those of the record that is begun, and none of them lies past the last record that is read
-abbrev pub Came : ℕ → ℕ → Got → Type 0
-Came taken room (Bytes n) = (taken + n ≤ most-read) × (taken % record-bytes + n ≤ room)
-Came taken room Failed = Unit
+abbrev pub Brings : ℕ → ℕ → Got → Type 0
+Brings taken room (Bytes n) = (taken + n ≤ most-read) × (taken % record-bytes + n ≤ room)
+Brings taken room Failed = Unit
+
+-- the bytes of the record that is begun stay as they are
+pub record Came (taken : ℕ) (xs ys : List ℕ) (got : Got) : Type 0 where
+  pub brings : Brings taken (length xs) got
+  pub kept : take (taken % record-bytes) ys ≡ take (taken % record-bytes) xs
 
 -- all at the end of the input, and before it those of whole records
 unfoldable pub upto : ℕ → ℕ → ℕ

@@ -3,7 +3,7 @@ ghost use mathlib.Core.Path.{_≡_};
 ghost use Prim.Native.Nat.{_+_, _<_, _≤_};
 ghost use lib.ListN.{length};
 ghost use Rattle.record.specs.Record.{record-bytes};
-ghost use Rattle.reading.specs.Reading.{most-read, End, Came, number-after, upto, to-front};
+ghost use Rattle.reading.specs.Reading.{most-read, Room, Came, number-after, upto, to-front};
 use libc::STDERR_FILENO;
 use libc::STDIN_FILENO;
 use libc::STDOUT_FILENO;
@@ -20,6 +20,13 @@ pub enum Got {
     Failed,
 }
 
+// What a turn of a program, one read and what is made of it, has come to: so many bytes, the end of the input, or a failure.
+pub enum Turned {
+    On(usize),
+    Ended,
+    Failed,
+}
+
 // The number of the record that is next, or begun, after `taken` bytes.
 pub fn number(taken: usize) -> u32
     requires { ⌜ taken < most-read ⌝ }
@@ -28,14 +35,15 @@ pub fn number(taken: usize) -> u32
     (taken / record::BYTES) as u32 + 1
 }
 
-// Where in a buffer of `room` bytes reading ends after `taken` bytes, of which those of the record that is begun stand at the
-// front: where the buffer ends, or where the last record that is read does.
-fn end(taken: usize, room: usize) -> usize
-    requires { ⌜ (taken < most-read) × (record-bytes ≤ room) ⌝ }
-    ensures { λ r. ⌜ End taken room r ⌝ }
+// How many bytes may be read after `taken` into a buffer of so many, behind those of the record that is begun: as many as there is
+// room for, and none past the last record that is read.
+fn room(taken: usize, bytes: usize) -> usize
+    requires { ⌜ (taken < most-read) × (record-bytes ≤ bytes) ⌝ }
+    ensures { λ r. ⌜ Room taken bytes r ⌝ }
 {
-    let left = LAST - taken + taken % record::BYTES;
-    if left < room { left } else { room }
+    let left = LAST - taken;
+    let free = bytes - taken % record::BYTES;
+    if left < free { left } else { free }
 }
 
 // A read into the lent bytes, after `taken` bytes. It is the only one, and `taken` is there for what it requires: that no byte past
@@ -54,13 +62,13 @@ fn failed(program: &[u8], what: &[u8], number: u32) {
     io::write_all(STDERR_FILENO, b"\n");
 }
 
-// One read into buf after `taken` bytes, behind those of the record that is begun. A read that failed is told.
+// One read into buf after `taken` bytes, behind those of the record that is begun, which stay. A read that failed is told.
 pub fn more(program: &[u8], taken: usize, buf: &mut [u8]) -> Got
     requires { ⌜ (taken < most-read) × (record-bytes ≤ length (now buf)) ⌝ }
-    ensures { λ r. ⌜ Came taken (length (now (buf .entry))) r ⌝ }
+    ensures { λ r. ⌜ Came taken (now (buf .entry)) (now (buf .exit)) r ⌝ }
 {
     let from = taken % record::BYTES;
-    let to = end(taken, buf.len());
+    let to = from + room(taken, buf.len());
     let got = read_after(taken, &mut buf[from..to]);
     if got < 0 {
         failed(program, b": reading failed at record ", number(taken));

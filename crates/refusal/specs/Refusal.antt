@@ -7,6 +7,7 @@
 --   refuse test concerns reason  this refusal if the test holds
 --   a then b                     the checks a and then b: the first that refuses decides
 --   is-refused outcome           whether it is a refusal
+--   number-of outcome            01's number of it: 0 for an answer
 use mathlib.Core.Bool.{Bool, true, false}
 use Prim.Native.Nat.{ℕ, _+_}
 use Rattle.refusal.specs.declared.Concerns.{Concerns}
@@ -78,3 +79,8 @@ Refused r then b = Refused r
 abbrev pub is-refused : Outcome → Bool
 is-refused Answered = false
 is-refused (Refused r) = true
+
+-- 0 for an answer
+abbrev pub number-of : Outcome → ℕ
+number-of Answered = 0
+number-of (Refused r) = number (r .reason)

@@ -10,7 +10,7 @@ use native.Mathlib.Nat.{mod-lt, mul-comm, one-mul, pow-zero, pow-suc}
 use native.Mathlib.Numerals.{add-one}
 use native.Mathlib.Omega.{arith}
 use lib.Pow.{pow-add}
-use Rattle.residue.proofs.Congruent.{Congruent, from-eq, reduced, times, raised, remainder, _then_}
+use Rattle.algebra.proofs.Congruent.{Congruent, from-eq, reduced, times, raised, remainder, _then_}
 
 pub record Powers (m a n r s l : ℕ) : Type 0 where
   pub small : r < m

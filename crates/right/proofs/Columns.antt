@@ -18,9 +18,9 @@ use lib.ListN.{length, set, length-set, replicate, length-replicate}
 use lib.Seq.{getD-set-same, getD-set-other}
 use Rattle.algebra.specs.Number.{choose}
 use Rattle.algebra.specs.Polynomial.{coef, limit, terms}
-use Rattle.residue.specs.Residue.{inner, strided, Strides}
-use Rattle.residue.proofs.Congruent.{Congruent, from-eq, reduced, turn, plus, times, restored, _then_}
-use Rattle.residue.proofs.Inner.{inner-extensional, strided-none, strided-more, strided-first, strided-extensional}
+use Rattle.inner.specs.Inner.{inner, strided, Strides}
+use Rattle.algebra.proofs.Congruent.{Congruent, from-eq, reduced, turn, plus, times, restored, _then_}
+use Rattle.inner.proofs.Inner.{inner-extensional, strided-none, strided-more, strided-first, strided-extensional}
 use Rattle.binomial.specs.Triangle.{rows}
 use Rattle.polynomial.specs.Degrees.{Degrees}
 use Rattle.polynomial.proofs.Below.{set-below}

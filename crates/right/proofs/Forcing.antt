@@ -26,8 +26,8 @@ use Rattle.algebra.proofs.RightPart.{power-at, forced-terms}
 use Rattle.algebra.proofs.Agreement.{forced-left-exists}
 use Rattle.algebra.proofs.Roots.{root-differs, root-closes}
 use Rattle.algebra.proofs.Numbers.{table-below}
-use Rattle.residue.specs.Residue.{strided}
-use Rattle.residue.proofs.Inner.{inner-none, inner-more, strided-none, strided-more}
+use Rattle.inner.specs.Inner.{strided}
+use Rattle.inner.proofs.Inner.{inner-none, inner-more, strided-none, strided-more}
 use Rattle.polynomial.specs.Degrees.{Degrees}
 use Rattle.right.specs.Right.{RightPart, Root}
 use Rattle.right.specs.Rows.{Scaled, Rows, Upside}

@@ -1,4 +1,4 @@
--- What the right part's leaves ask and promise.
+-- What the right part's leaves ask and promise. Only leaves need this.
 --
 --   RightAsked m n r s u f  f is reduced, of degree n = r·s, and u is an inverse of r
 --   RightPart m f r s h     h is reduced, obeys 01's Right part rule, and depends on the leading terms of f only

@@ -1,5 +1,6 @@
 -- The rows of the powers of t, where 1 + t is the r-th root of f, counted from the top: row i (from 0) of a list holds t^(i+1), its
 -- place k at i·w + k, w being how many places a row has. Places 1 to s - 1 of row 0 are those of the right part h = x^s + ...
+-- Only leaves need this.
 --
 --   words                   how many words the rows take at the most
 --   Space m a                a list for them: so many words, each below m
@@ -15,7 +16,7 @@ use Prim.Native.Nat.{ℕ, suc, min, _+_, _*_, _-_, _%_, _≤_, _<_}
 use lib.ListN.{length}
 use Rattle.algebra.specs.Number.{choose}
 use Rattle.algebra.specs.Polynomial.{coef, terms}
-use Rattle.residue.specs.Residue.{inner, strided}
+use Rattle.inner.specs.Inner.{inner, strided}
 use Rattle.binomial.specs.Triangle.{rows}
 
 -- no more than r rows of s + 2 places, where r and s are at least 2: twice r·s at the most

@@ -10,7 +10,7 @@ ghost use mathlib.Core.Path.{_≡_};
 ghost use Prim.Native.Nat.{min, _+_, _*_, _%_, _≤_, _<_};
 ghost use lib.ListN.{length};
 ghost use Rattle.algebra.specs.Polynomial.{limit, Reduced};
-ghost use Rattle.residue.specs.Ready.{Ready};
+ghost use Rattle.reciprocal.specs.Ready.{Ready};
 ghost use Rattle.polynomial.specs.Degrees.{Degrees};
 ghost use Rattle.binomial.specs.Triangle.{rows, HasRow};
 ghost use Rattle.right.specs.Right.{RightAsked, Root};
@@ -18,7 +18,7 @@ ghost use Rattle.right.specs.Rows.{words, Space, Scaled, ColumnRoom, Col
 use binomial::ROWS;
 use polynomial::Coefficients;
 use polynomial::TERMS;
-use residue::Divisor;
+use reciprocal::Divisor;
 
 // How many words the rows of any degrees take at the most: r rows of s + 2 places.
 pub const WORDS: usize = 2 * TERMS;
@@ -31,7 +31,7 @@ fn binomials(row: &[u64], r: usize, top: usize, u: u32, m: Divisor) -> [u32; ROW
     let mut b = [0; ROWS];
     b[1] = u;
     for i in 2..top + 1 {
-        let x = residue::remainder(row[i], m);
+        let x = reciprocal::remainder(row[i], m);
         b[i] = residue::subtract(0, residue::multiply(x, u, m), m.number);
     }
     b
@@ -44,7 +44,7 @@ fn column(t: &mut [u32], w: usize, k: usize, n: usize, m: Divisor)
 {
     let mut at = k;
     for i in 0..n {
-        let x = residue::inner_product(t, t, at, 1, k - i, m);
+        let x = inner::inner_product(t, t, at, 1, k - i, m);
         at += w;
         t[at] = x;
     }
@@ -60,7 +60,7 @@ fn next(t: &mut [u32], f: &[u32], b: &[u32], n: usize, r: usize, s: usize, k: us
     let last = polynomial::smaller(r, k);
     column(t, w, k, last - 1, m);
     t[k] = f[n - k];
-    let x = residue::strided_product(b, t, 1, last + 1, k, w, m);
+    let x = inner::strided_product(b, t, 1, last + 1, k, w, m);
     t[k] = x;
 }
 

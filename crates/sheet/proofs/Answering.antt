@@ -2,6 +2,7 @@
 --
 --   room, roomy                   past No. 11 there is room, and where there is room it passes
 --   records-first, twelve-first   the reader's order
+--   room-first, modulus-next, order-next, parts-next     the writer's order
 --   sheet-passes, area-passes     what a sheet, and an area, that passes its checks has passed
 --   product-within                past No. 10 the product is within the limit
 --   write-short, write-refused, write-made              each return of the writer
@@ -55,6 +56,25 @@ unfolding check-sheet
 twelve-first b e h =
     ap (λ (o : Outcome). o then check-order (λ i. used (record-at b i)) then check-moduli b then check-product (held b)) e
     ∙ sym (then-assoc (check-order (λ i. used (record-at b i))) (check-moduli b) (check-product (held b))) ∙ then-refused (check-product (held b)) h
+
+-- the writer's order: 11, 1, 12, each used part's 2 to 4, 10
+pub room-first : (w : ℕ) (xs b : List ℕ) → is-refused (check-room (length b) (length xs)) ≡ true → check-writer w xs b ≡ check-room (length b) (length xs)
+unfolding check-writer
+room-first w xs b h = then-refused _ h
+
+module _ (w : ℕ) (xs : List ℕ) where
+  pub modulus-next : is-refused (check-modulus (modulus w)) ≡ true → check-area w xs ≡ check-modulus (modulus w)
+  unfolding check-area
+  modulus-next h = then-refused _ h
+
+  module _ (one : check-modulus (modulus w) ≡ Answered) where
+    pub order-next : is-refused (check-order (λ i. used (place xs i))) ≡ true → check-area w xs ≡ check-order (λ i. used (place xs i))
+    unfolding check-area
+    order-next h = simp one (then-refused _ h)
+
+    pub parts-next : check-order (λ i. used (place xs i)) ≡ Answered → is-refused (check-parts (modulus w) xs) ≡ true → check-area w xs ≡ check-parts (modulus w) xs
+    unfolding check-area
+    parts-next e h = simp (one, e) (then-refused _ h)
 
 pub sheet-passes : (b : List ℕ) → check-sheet b ≡ Answered
     → (check-records b ≡ Answered) × (check-order (λ i. used (record-at b i)) ≡ Answered) × (check-moduli b ≡ Answered) × (check-product (held b) ≡ Answered)

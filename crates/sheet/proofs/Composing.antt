@@ -38,9 +38,9 @@ use Rattle.polynomial.proofs.Filling.{zeros}
 use Rattle.composition.specs.Composition.{composition, Composable}
 use Rattle.composition.proofs.Horner.{held-ends}
 use Rattle.area.specs.Area.{most-parts}
-use Rattle.sheet.specs.Sheet.{used, parts-in}
+use Rattle.sheet.specs.Sheet.{used, parts-in, Parted}
 use Rattle.sheet.specs.Checks.{check-product}
-use Rattle.sheet.specs.Steps.{Rising, Parted, Composes, ComposedTo}
+use Rattle.sheet.specs.Steps.{Rising, Composes, ComposedTo}
 
 module _ (g : ℕ → List ℕ) where
   -- a place that is not used

@@ -7,5 +7,4 @@ pub mod Composing
 pub mod Taking
 pub mod Answering
 pub mod Trips
-pub mod Laid
 pub mod Promises

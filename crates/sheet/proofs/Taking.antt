@@ -35,9 +35,9 @@ use Rattle.area.specs.Area.{most-parts, area-words, place, cleared, all-zero}
 use Rattle.area.proofs.Reading.{part-fills}
 use Rattle.record.specs.Record.{word, record-bytes, coefficients}
 use Rattle.record.proofs.Answers.{coefficients-long}
-use Rattle.sheet.specs.Sheet.{record-at, used, joined, held, area-of}
+use Rattle.sheet.specs.Sheet.{record-at, used, joined, held, area-of, Parted}
 use Rattle.sheet.specs.Checks.{in-order, check-order, check-words, check-placed, check-records, check-moduli, check-part, check-parts}
-use Rattle.sheet.specs.Steps.{Rising, Parted}
+use Rattle.sheet.specs.Steps.{Rising}
 use Rattle.sheet.proofs.Joining.{joined-length, joined-past, piece}
 use Rattle.sheet.proofs.Checking.{each-at}
 use Rattle.sheet.proofs.Words.{blank-held, used-words}

@@ -5,7 +5,6 @@
 --   written-use, written-held, written-modulus     and has the area's places in use, its parts, and the modulus word
 --   taken-area                the area of a sheet that the reader accepts passes the writer's checks
 --   taken-written             and its sheet has the same bytes
---   FirstOnes u k             the used places are the first k, and k is not 0
 --   order-exact, exact-order  what passes No. 12 of the used places is that
 use mathlib.Core.Path.{_≡_, refl, sym, ap, ap₂, subst, _∙_}
 use mathlib.Core.Bool.{Bool, true, false, not, _&&_, _||_, true≢false}
@@ -33,7 +32,7 @@ use Rattle.area.proofs.Reading as area
 use Rattle.record.specs.Record.{word, record-bytes, coefficients}
 use Rattle.record.proofs.Answers.{coefficients-long}
 use Rattle.sheet.specs.Sheet.{sheet-bytes, record-at, used, record-of, recorded, sheet-of, held, area-of}
-use Rattle.sheet.specs.Checks.{in-order, check-order, check-words, check-placed, check-records, check-moduli, check-part, check-parts, check-sheet, check-area}
+use Rattle.sheet.specs.Checks.{in-order, check-order, check-words, check-placed, check-records, check-moduli, check-part, check-parts, check-sheet, check-area, FirstOnes}
 use Rattle.sheet.proofs.Zeros.{all-zeros}
 use Rattle.sheet.proofs.Joining.{joined-ext, piece, piece-long, pieces}
 use Rattle.sheet.proofs.Checking.{each-at, each-all, order-ext, product-ext}
@@ -176,12 +175,6 @@ module _ (b rest : List ℕ) (room : sheet-bytes ≤ length b) (passes : check-s
     pub taken-written : sheet-of (word b 0) taken ≡ take sheet-bytes b
     unfolding sheet-of sheet-bytes
     taken-written = joined-ext most-parts _ (λ i. record-at b i) (λ i l. same-record i l (used (record-at b i)) refl) ∙ pieces record-bytes most-parts b
-
--- No. 12 in words: the used places are the first k, and k is not 0
-pub record FirstOnes (u : ℕ → Bool) (k : ℕ) : Type 0 where
-  pub some : 1 ≤ k
-  pub most : k ≤ most-parts
-  pub is : (i : ℕ) → i < most-parts → u i ≡ ltb i k
 
 module _ (u : ℕ → Bool) where
   pub exact-order : {k : ℕ} → FirstOnes u k → check-order u ≡ Answered

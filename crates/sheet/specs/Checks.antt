@@ -4,6 +4,7 @@
 --   check-room bytes words    No. 11
 --   in-order u i              place i is where it may be, by the used places u
 --   check-order u             No. 12 of the used places u: they are the first ones, and there is one
+--   FirstOnes u k             in words: the used places are the first k, and k is not 0 (`order-exact`, `exact-order`)
 --   check-moduli b            No. 12 of the moduli: every used record has that of the first
 --   check-words w f i         1 to 4 of a record in place i, whose words are w and f
 --   check-placed r i          1 to 4 of the record r in place i, if it is used, by its own modulus
@@ -13,9 +14,10 @@
 --   check-product g           No. 10: the degrees of the used ones of g multiply to more than the limit
 --   check-sheet b             the reader's checks past No. 11, in their order
 --   check-writer w xs b       the writer's checks, in their order; check-area are those past No. 11
+use mathlib.Core.Path.{_≡_}
 use mathlib.Core.Bool.{Bool, not, cond, _&&_, _||_}
 use mathlib.Core.List.{List}
-use Prim.Native.Nat.{ℕ, zero, suc}
+use Prim.Native.Nat.{ℕ, zero, suc, _≤_, _<_}
 use lib.Dec.{ltb, eqb}
 use lib.ListN.{length}
 use Rattle.algebra.specs.Polynomial.{limit}
@@ -88,3 +90,9 @@ check-area w xs = check-modulus (modulus w) then check-order (λ i. used (place 
 -- 11 before everything
 unfoldable pub check-writer : ℕ → List ℕ → List ℕ → Outcome
 check-writer w xs b = check-room (length b) (length xs) then check-area w xs
+
+-- No. 12 in words: the used places are the first k, and k is not 0
+pub record FirstOnes (u : ℕ → Bool) (k : ℕ) : Type 0 where
+  pub some : 1 ≤ k
+  pub most : k ≤ most-parts
+  pub is : (i : ℕ) → i < most-parts → u i ≡ ltb i k

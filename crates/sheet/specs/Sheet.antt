@@ -9,11 +9,14 @@
 --   sheet-of w xs             the sheet of the modulus word w and the area xs
 --   held b i, area-of b       the polynomial in place i of the sheet b; the words of the area that b gives
 --   parts-in g n              the used ones of g(0) to g(n - 1), listed from the right, as a chain's parts are
-use mathlib.Core.Bool.{Bool, not, cond}
+--   Parted m g                every used one of g(0), g(1), .. is a part
+use mathlib.Core.Path.{_≡_}
+use mathlib.Core.Bool.{Bool, true, not, cond}
 use mathlib.Core.List.{List, [], _∷_, _++_}
-use Prim.Native.Nat.{ℕ, zero, suc, _+_, _*_, _/_, _%_}
+use Prim.Native.Nat.{ℕ, zero, suc, _+_, _*_, _/_, _%_, _<_}
 use lib.ListN.{take, drop, replicate}
 use Rattle.algebra.specs.Polynomial.{coef, terms}
+use Rattle.algebra.specs.Chain.{Part}
 use Rattle.area.specs.Area.{most-parts, place, all-zero}
 use Rattle.record.specs.Record.{record-bytes, coefficients}
 
@@ -62,3 +65,7 @@ area-of b = joined most-parts (held b)
 unfoldable pub parts-in : (ℕ → List ℕ) → ℕ → List (List ℕ)
 parts-in g zero = []
 parts-in g (suc n) = cond (used (g n)) (g n ∷ parts-in g n) (parts-in g n)
+
+-- reduced, and monic of a degree of 2 or more
+pub record Parted (m : ℕ) (g : ℕ → List ℕ) : Type 0 where
+  pub is : (i : ℕ) → i < most-parts → used (g i) ≡ true → Part m (g i)

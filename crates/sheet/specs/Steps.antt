@@ -1,12 +1,11 @@
--- What the steps of the reader and the writer hand on to each other.
+-- What the steps of the reader and the writer hand on to each other. Only leaves need this.
 --
 --   put-word b j w            the record b with the word w in place j
 --   put-record b i r          the sheet b with r in place i
 --   Taken b xs ys o           o: each used record's own 1 to 4; where none refuses the area xs, now ys, holds the polynomials
 --   Rising g                  every used one of g(0), g(1), .. has a degree of 1 or more, within the limit
 --   Used b xs                 the area xs has the used places of the sheet b
---   Parted m g                every used one of g(0), g(1), .. is a part
---   Composes m g              and they compose within the limit
+--   Composes m g              every used one of g(0), g(1), .. is a part, and they compose within the limit
 --   ComposedTo m g i p n      p is what the used ones of the first i compose to, modulo m, and n its degree
 use mathlib.Core.Path.{_≡_}
 use mathlib.Core.Bool.{true}
@@ -14,12 +13,12 @@ use mathlib.Core.List.{List, _++_}
 use Prim.Native.Nat.{ℕ, _*_, _≤_, _<_}
 use lib.ListN.{take, drop}
 use Rattle.algebra.specs.Polynomial.{limit, degree, reduced}
-use Rattle.algebra.specs.Chain.{Part, composed, degrees, product}
+use Rattle.algebra.specs.Chain.{composed, degrees, product}
 use Rattle.refusal.specs.declared.Outcome.{Outcome}
 use Rattle.refusal.specs.declared.Outcome.the-variants.{Answered}
 use Rattle.area.specs.Area.{most-parts, area-words, place, cleared}
 use Rattle.record.specs.Record.{record-bytes}
-use Rattle.sheet.specs.Sheet.{record-at, used, bytes, area-of, parts-in}
+use Rattle.sheet.specs.Sheet.{record-at, used, bytes, area-of, parts-in, Parted}
 use Rattle.sheet.specs.Checks.{check-records}
 
 -- the four bytes of w, and nothing else changed
@@ -44,10 +43,6 @@ pub record Rising (g : ℕ → List ℕ) : Type 0 where
 -- past 1 to 4 the used records are those with a used polynomial
 pub record Used (b xs : List ℕ) : Type 0 where
   pub is : (i : ℕ) → i < most-parts → used (place xs i) ≡ used (record-at b i)
-
--- reduced, and monic of a degree of 2 or more
-pub record Parted (m : ℕ) (g : ℕ → List ℕ) : Type 0 where
-  pub is : (i : ℕ) → i < most-parts → used (g i) ≡ true → Part m (g i)
 
 -- parts, and the composed degree is within the limit
 pub record Composes (m : ℕ) (g : ℕ → List ℕ) : Type 0 where

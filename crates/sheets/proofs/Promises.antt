@@ -3,6 +3,7 @@
 --   sheet-determined     two sheets of one record are equal
 --   sheets-determined    so are two outputs for the same bytes
 --   pieces               the sheets of whole records and then the sheets of what follows them are the sheets of all
+--   run-sheeted          what a run that has come to its end has put is the sheets of its input, whatever the pieces
 --   refused-sheet        the sheet of a record that is refused is zero bytes
 --   refused-read         which the reader refuses by No. 12
 --   record-read          the sheet of any other record, read, gives its modulus word and its polynomial
@@ -32,8 +33,10 @@ use Rattle.sheet.specs.Sheet.{sheet-bytes, record-at, joined, sheet-of}
 use Rattle.sheet.specs.Answers.{ReadsSheet}
 use Rattle.sheet.proofs.Joining.{joined-ext, pieces as cut-and-joined}
 use Rattle.sheet.proofs.Words.{Bytes, word-small}
-use Rattle.sheet.proofs.Promises.{chain-sheet, blank-refused}
-use Rattle.sheets.specs.Sheets.{SheetOf, records, sheet-at, SheetsOf}
+use Rattle.demands.proofs.Sheets.{chain-sheet, blank-refused}
+use Rattle.reading.specs.Running.{Whole}
+use Rattle.reading.proofs.Running.{whole}
+use Rattle.sheets.specs.Sheets.{SheetOf, records, sheet-at, SheetsOf, Makes}
 use Rattle.sheets.specs.Sheets as of
 use Rattle.sheets.proofs.Pieces.{front}
 
@@ -88,6 +91,11 @@ pieces {b} {t} {c} {u} even x y = record { long = long; each = λ i l. go i l (d
         rw (front record-bytes b c i (omega (arith, bytes)), front sheet-bytes t u i (omega (arith, x .long, N.mul-le-mul-right {m = suc i} {n = n} sheet-bytes h))) (x .each i h)
     go i l (no h) =
         rw (past record-bytes b c i bytes (omega arith), past sheet-bytes t u i (x .long) (omega arith)) (y .each (i - n) (omega (arith, all)))
+
+-- sheets written piece by piece are the sheets of all
+pub run-sheeted : {input out : List ℕ} → Whole Makes input out → SheetsOf input out
+unfolding records record-bytes terms limit
+run-sheeted = whole (record { none = record { long = sym (N.zero-mul sheet-bytes); each = λ i l. absurd (N.not-suc-le-zero l) }; pieces = λ b t c u k even first others. pieces even first others })
 
 -- the blank area is long enough
 room : area-words ≤ length (replicate {A = ℕ} area-words 0)

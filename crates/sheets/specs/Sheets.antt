@@ -1,17 +1,16 @@
--- The sheets of records, and what the program makes of a read.
+-- The sheets of records.
 --
 --   SheetOf b c               c is the sheet of the record whose bytes are b: that of its chain, or zero bytes if it is refused
 --   records n                 how many records n bytes are cut into, of which the last may be short
 --   sheet-at out i            the bytes of sheet i
 --   SheetsOf b out            out is the sheets of the records that b is cut into
---   most-records              how many records are read at a time
---   buffer-bytes              their bytes
+--   most-sheets               how many records are read at a time
+--   sheets-buffer             their bytes
 --   SheetsIn b xs ys r        the sheets of b stand at the start of ys, which was xs, and r is their length
---   Step taken more xs ys out out′ r
---                             what a read that brings `more` bytes leads to after `taken`: from the buffer xs to sheets, and to the buffer ys
+--   Makes b k out             the same as `SheetsOf`, for `RunOf` of `reading/specs/Running`: what a run promises
 use mathlib.Core.Path.{_≡_}
 use mathlib.Core.List.{List}
-use Prim.Native.Nat.{ℕ, _+_, _-_, _*_, _/_, _%_, _<_}
+use Prim.Native.Nat.{ℕ, _+_, _-_, _*_, _/_, _<_}
 use lib.ListN.{length, take, drop, replicate}
 use Rattle.refusal.specs.declared.Refusal.{Refusal}
 use Rattle.refusal.specs.declared.Outcome.the-variants.{Answered, Refused}
@@ -21,7 +20,6 @@ use Rattle.record.specs.Record.{word, record-bytes, coefficients, check-record}
 use Rattle.chain.specs.declared.Chained.{Chained}
 use Rattle.chain.specs.Chaining.{ChainOf}
 use Rattle.sheet.specs.Sheet.{sheet-bytes, record-at, sheet-of}
-use Rattle.reading.specs.Reading.{upto, to-front}
 
 -- refused by its check, refused by the chain, or chained: then the sheet of the chain's area
 pub data SheetOf (b c : List ℕ) : Type 0 where
@@ -45,12 +43,12 @@ pub record SheetsOf (b out : List ℕ) : Type 0 where
   pub each : (i : ℕ) → i < records (length b) → SheetOf (record-at b i) (sheet-at out i)
 
 -- so many records go through the program's memory at a time
-unfoldable pub most-records : ℕ
-most-records = 21
+unfoldable pub most-sheets : ℕ
+most-sheets = 21
 
 -- those of the records that are read at a time
-unfoldable pub buffer-bytes : ℕ
-buffer-bytes = most-records * record-bytes
+unfoldable pub sheets-buffer : ℕ
+sheets-buffer = most-sheets * record-bytes
 
 -- sheets in a buffer, and nothing past them has changed
 pub record SheetsIn (b xs ys : List ℕ) (r : ℕ) : Type 0 where
@@ -58,7 +56,6 @@ pub record SheetsIn (b xs ys : List ℕ) (r : ℕ) : Type 0 where
   pub end : r ≡ records (length b) * sheet-bytes
   pub past : drop r ys ≡ drop r xs
 
--- sheets for the records that are whole, and the rest at the front
-pub record Step (taken more : ℕ) (xs ys out out′ : List ℕ) (r : ℕ) : Type 0 where
-  pub sheets : SheetsIn (take (upto (taken % record-bytes) more) xs) out out′ r
-  pub rest : ys ≡ to-front xs (upto (taken % record-bytes) more) (taken % record-bytes + more - upto (taken % record-bytes) more)
+-- what a run makes of its records, whatever their numbers
+abbrev pub Makes : List ℕ → ℕ → List ℕ → Type 0
+Makes b k out = SheetsOf b out

@@ -5,9 +5,11 @@ ghost use lib.ListN.{length};
 ghost use Rattle.record.specs.Record.{record-bytes};
 ghost use Rattle.sheet.specs.Sheet.{sheet-bytes};
 ghost use Rattle.reading.specs.Reading.{most-read};
-ghost use Rattle.sheets.specs.Sheets.{most-records, buffer-bytes, records as records-of, SheetOf, SheetsIn, Step};
+ghost use Rattle.reading.specs.Running.{Step, TurnOf, RunOf};
+ghost use Rattle.sheets.specs.Sheets.{most-sheets, sheets-buffer, records as records-of, SheetOf, SheetsOf, SheetsIn, Makes};
 use reading::Got;
 use reading::LAST;
+use reading::Turned;
 
 // What the program is called where it tells of a failure.
 const NAME: [u8; 6] = *b"sheets";
@@ -29,7 +31,7 @@ fn sheet_of(bytes: &[u8], out: &mut [u8])
     let c = record::check(bytes);
     let o = c.outcome;
     if refusal::refuses(o) {
-        sheet::blank(out);
+        sheet_writer::blank(out);
         return;
     }
     let mut area = [0; area::WORDS];
@@ -37,15 +39,15 @@ fn sheet_of(bytes: &[u8], out: &mut [u8])
     let x = chain::chain(c.modulus, f, &mut area);
     let p = x.outcome;
     if refusal::refuses(p) {
-        sheet::blank(out);
+        sheet_writer::blank(out);
         return;
     }
-    sheet::put(c.modulus, &area, out);
+    sheet_writer::put(c.modulus, &area, out);
 }
 
 // How many records n bytes are cut into, of which the last may be short.
 fn records(n: usize) -> usize
-    requires { ⌜ n ≤ buffer-bytes ⌝ }
+    requires { ⌜ n ≤ sheets-buffer ⌝ }
     ensures { λ r. ⌜ r ≡ records-of n ⌝ }
 {
     (n + (record::BYTES - 1)) / record::BYTES
@@ -53,7 +55,7 @@ fn records(n: usize) -> usize
 
 // The sheets of the records that s is cut into, one after the other; answers their length.
 fn sheets(s: &[u8], out: &mut [u8]) -> usize
-    requires { ⌜ (length (now s) ≤ buffer-bytes) × (most-records * sheet-bytes ≤ length (now out)) ⌝ }
+    requires { ⌜ (length (now s) ≤ sheets-buffer) × (most-sheets * sheet-bytes ≤ length (now out)) ⌝ }
     ensures { λ r. ⌜ SheetsIn (now (s .entry)) (now (out .entry)) (now (out .exit)) r ⌝ }
 {
     let n = records(s.len());
@@ -67,43 +69,65 @@ fn sheets(s: &[u8], out: &mut [u8]) -> usize
     n * sheet::BYTES
 }
 
-// What a read that brought `more` bytes leads to, after `taken` bytes: sheets in out, whose length is the answer, and the bytes that
-// have no sheet yet, fewer than a record, at the front of buf.
-fn step(taken: usize, more: usize, buf: &mut [u8], out: &mut [u8]) -> usize
-    requires { ⌜ (taken < most-read) × (taken + more ≤ most-read) × (taken % record-bytes + more ≤ buffer-bytes)
-        × (length (now buf) ≡ buffer-bytes) × (most-records * sheet-bytes ≤ length (now out)) ⌝ }
-    ensures { λ r. ⌜ Step taken more (now (buf .entry)) (now (buf .exit)) (now (out .entry)) (now (out .exit)) r ⌝ }
+// Puts the sheets of the bytes that are read after `taken`, and answers whether it could. It is the only write, and `records` is
+// there for what it requires: that what is put is the sheets of these bytes.
+fn put(taken: usize, records: &[u8], sheets: &[u8]) -> bool
+    requires { ⌜ (taken < most-read) × SheetsOf (now records) (now sheets) ⌝ }
+{
+    reading::put(&NAME, taken, sheets)
+}
+
+// What a read that brought `more` bytes leads to, after `taken` bytes: the sheets of the records that are whole by it are put, and the
+// bytes that have no sheet yet, fewer than a record, come to the front of buf. Answers whether the sheets could be put.
+fn step(taken: usize, more: usize, buf: &mut [u8], out: &mut [u8]) -> bool
+    requires { ⌜ (taken < most-read) × (taken + more ≤ most-read) × (taken % record-bytes + more ≤ sheets-buffer)
+        × (length (now buf) ≡ sheets-buffer) × (most-sheets * sheet-bytes ≤ length (now out)) ⌝ }
+    ensures { λ r. ⌜ Step Makes taken more (now (buf .entry)) (now (buf .exit)) ⌝ }
 {
     let kept = taken % record::BYTES;
     let to = reading::listed(kept, more);
     let w = sheets(&buf[..to], out);
+    let is_put = put(taken, &buf[..to], &out[..w]);
     reading::keep(buf, to, kept + more - to);
-    w
+    is_put
 }
 
-// One read, and the sheets of the records that are whole by it. Answers how many bytes it brought, 0 if nothing is left to do: the
-// input has ended, or reading or writing failed.
-fn turn(taken: usize, buf: &mut [u8], out: &mut [u8]) -> usize
-    requires { ⌜ (taken < most-read) × (length (now buf) ≡ buffer-bytes) × (most-records * sheet-bytes ≤ length (now out)) ⌝ }
-    ensures { λ r. ⌜ taken + r ≤ most-read ⌝ }
+// One read, and the sheets of the records that are whole by it.
+fn turn(taken: usize, buf: &mut [u8], out: &mut [u8]) -> Turned
+    requires { ⌜ (taken < most-read) × (length (now buf) ≡ sheets-buffer) × (most-sheets * sheet-bytes ≤ length (now out)) ⌝ }
+    ensures { λ r. ⌜ TurnOf Makes taken (now (buf .entry)) (now (buf .exit)) r ⌝ }
 {
     let Got::Bytes(more) = reading::more(&NAME, taken, buf) else {
-        return 0;
+        return Turned::Failed;
     };
-    let w = step(taken, more, buf, out);
-    let is_written = reading::put(&NAME, taken, &out[..w]);
-    if is_written { more } else { 0 }
+    if !step(taken, more, buf, out) {
+        return Turned::Failed;
+    }
+    if more == 0 {
+        return Turned::Ended;
+    }
+    Turned::On(more)
+}
+
+// Turn by turn, to the end of the input or the last record that is read. Answers false if reading or writing failed.
+fn run(buf: &mut [u8], out: &mut [u8]) -> bool
+    requires { ⌜ (length (now buf) ≡ sheets-buffer) × (most-sheets * sheet-bytes ≤ length (now out)) ⌝ }
+    ensures { λ r. ⌜ RunOf Makes r ⌝ }
+{
+    let mut taken = 0;
+    while taken < LAST {
+        let t = turn(taken, buf, out);
+        match t {
+            Turned::On(more) => taken += more,
+            Turned::Ended => return true,
+            Turned::Failed => return false,
+        }
+    }
+    true
 }
 
 fn main() {
     let mut buf = [0u8; BUFFER];
     let mut out = [0u8; SHEETS];
-    let mut taken = 0;
-    while taken < LAST {
-        let more = turn(taken, &mut buf, &mut out);
-        if more == 0 {
-            return;
-        }
-        taken += more;
-    }
+    run(&mut buf, &mut out);
 }

@@ -251,17 +251,11 @@ fault-at {e = e} f =
 fresh-start : (d : Fault) → begin ≡ stuck d → ⊥
 fresh-start d z = let y : _≡_ {A = ℕ} 0 1 = cc in omega arith
 
--- a first fault, wherever it is
-pub record FirstFault (w : List ℕ) : Type 0 where
-  pub before : List ℕ
-  pub byte : ℕ
-  pub first : FaultAt w before byte
-
 -- every text begins a text of the language, or has a first fault
-pub fault-or-start : (w : List ℕ) → Start most-deep w ⊎ FirstFault w
+pub fault-or-start : (w : List ℕ) → Start most-deep w ⊎ ((before : List ℕ) × (byte : ℕ) × FaultAt w before byte)
 fault-or-start w =
     ⊎-elim
-    (λ z. let f = first most-deep w begin (z .0) fresh-start (z .1) in inr (record { before = f .before; byte = f .byte; first = fault-at f }))
+    (λ z. let f = first most-deep w begin (z .0) fresh-start (z .1) in inr (f .before, f .byte, fault-at f))
     (λ z. inl (fine-start most-deep w (run most-deep begin w) (fine-run most-deep [] begin w (fine-first most-deep)) z))
     (stuck-or (run most-deep begin w))
 

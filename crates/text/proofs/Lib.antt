@@ -1,10 +1,7 @@
 pub mod Spelling
+pub mod Running
 pub mod Reached
 pub mod Exact
-pub mod Counting
-pub mod Readers
-pub mod Judging
 pub mod Promises
 pub mod Cases
 pub mod Writing
-pub mod Putting

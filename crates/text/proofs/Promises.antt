@@ -4,43 +4,32 @@
 --   fault-one                      the first fault is at one place only
 --   modulus-exactly, unsized-exactly, read-exactly, high-exactly, ninth-exactly, misspelt-exactly     the answer, told from the grammar alone
 --   read-determined, write-determined         two answers are equal
---   Misspelt, read-language        13 or 14 exactly if the text is not in the language
---   read-ninth                     14 exactly if its first fault is a ninth open bracket
---   within-low                     what is built within the limit is low
---   read-accepted                  an answer without a refusal passes the checks of the desk, and is the meaning modulo m
+--   two-passes                     what is reduced passes 2, so that 2 to 4 are 3 and 4
+--   text-refused, text-short, text-fits     the writer's checks: 1 to 4 come before 11
 use mathlib.Core.Path.{_≡_, refl, sym, ap, _∙_}
-use mathlib.Core.Bool.{Bool, true, false, not}
-use mathlib.Core.Logic.{_⊎_, inl, inr, ⊎-elim, _↔_}
 use mathlib.Core.List.{List, [], _∷_, _++_, append-assoc}
-use Prim.Native.Nat.{ℕ, _-_}
-use Rattle.refusal.specs.Refusal.{refusal, refuse, _then_, number as number-of}
+use Prim.Native.Nat.{ℕ, _-_, _≤_, _<_}
+use Rattle.refusal.specs.Refusal.{refusal, _then_}
 use Rattle.refusal.specs.declared.Refusal.{Refusal}
 use Rattle.refusal.specs.declared.Outcome.{Outcome}
 use Rattle.refusal.specs.declared.Concerns.the-variants.{Neither, First}
-use Rattle.refusal.specs.declared.Reason.the-variants.{Degree, Leading, Limit, Spelling, Depth}
+use Rattle.refusal.specs.declared.Reason.the-variants.{Limit, Area, Spelling, Depth}
 use Rattle.refusal.specs.declared.Outcome.the-variants.{Answered, Refused}
 use Rattle.refusal.proofs.Outcomes.{never}
 use Rattle.polynomial.specs.declared.Answer.{Answer}
 use Rattle.polynomial.specs.Answers.{nothing}
-use Rattle.polynomial.specs.Checks.{check-degree, check-leading, check-coefficients, check-polynomial, check-one, offending, Accepted}
+use Rattle.polynomial.specs.Checks.{check-degree, check-leading, check-coefficients, check-polynomial, check-one, offending}
 use Rattle.polynomial.specs.Moduli.{check-modulus}
 use Rattle.polynomial.proofs.Lowest.{none-offending}
-use Rattle.polynomial.proofs.Acceptance.{accepted-one, accepted-modulus}
-use Rattle.algebra.specs.Polynomial.{coef, limit, degree, reduced, Same, Reduced}
-use Rattle.algebra.proofs.Reduction.{reduced-reduced}
-use Rattle.built.proofs.Joining.{reduced-low, low-power, low-scaled}
-use Rattle.built.proofs.Singles.{single-low}
-use Rattle.built.specs.Built as built-specs
-use borrow.Author.Tests.{le-ltb}
+use Rattle.algebra.specs.Polynomial.{reduced, Reduced}
+use borrow.Author.Tests.{lt-ltb, le-ltb}
 use native.Mathlib.Nat.{le-refl}
-use native.Mathlib.Omega.{arith}
-use lib.Dec.{ltb, eqb}
 use lib.ListN.{length}
-use Rattle.built.specs.Built.{Low}
-use Rattle.text.specs.Grammar.{Sum, Product, Factor, Base, term, negative, add, subtract, single, multiply, plain, raised, number, unknown, bracket, digits-value, most-deep}
+use Rattle.text.specs.Grammar.{Sum, most-deep}
 use Rattle.text.specs.Language.{Sentence, Start, FaultAt, Ninth}
-use Rattle.text.specs.Meaning.{meaning, meaning-product, meaning-factor, meaning-base, Within, WithinProduct, WithinFactor, WithinBase}
-use Rattle.text.specs.Answers.{Sized, ReadsText, modulus, unsized, ninth, misspelt, high, read, WritesText, refused, wrote, checked, answer}
+use Rattle.text.specs.Meaning.{meaning, Within}
+use Rattle.text.specs.Answers.{Sized, ReadsText, modulus, unsized, ninth, misspelt, high, read, WritesText, refused, wrote, checked-text, check-text}
+use Rattle.text.specs.Writing.{text-of}
 use Rattle.text.specs.declared.Written.{Written}
 use Rattle.text.proofs.Spelling.{one-meaning}
 
@@ -52,7 +41,7 @@ fault-no-sentence {before = before} {byte} n z =
       sentence = record { tree = z .tree; fits = z .fits; spelled = z .spelled ∙ sym (n .whole) ∙ sym (append-assoc before (byte ∷ []) (n .after)) };
     })
 
-ninth-no-sentence : {w : List ℕ} → Ninth w → Sentence most-deep w → ⊥
+pub ninth-no-sentence : {w : List ℕ} → Ninth w → Sentence most-deep w → ⊥
 ninth-no-sentence n = fault-no-sentence (n .first)
 
 -- where two lists that are the same go apart
@@ -117,13 +106,13 @@ unsized-exactly ok z (high p s y n e) = absurd (z s)
 unsized-exactly ok z (read p s y h e) = absurd (z s)
 
 module _ {m : ℕ} {w : List ℕ} {r : Answer} (ok : check-modulus m ≡ Answered) (size : Sized w) where
-  pub read-exactly : (z : Sentence most-deep w) → Within (z .tree) m → ReadsText m w r → r ≡ checked (reduced m (meaning (z .tree) m))
+  pub read-exactly : (z : Sentence most-deep w) → Within (z .tree) m → ReadsText m w r → r ≡ checked-text (reduced m (meaning (z .tree) m))
   read-exactly z i (modulus p e) = absurd (never p ok)
   read-exactly z i (unsized p n e) = absurd (n size)
   read-exactly z i (ninth p s n e) = absurd (ninth-no-sentence n z)
   read-exactly z i (misspelt p s n l e) = absurd (l z)
   read-exactly z i (high p s y n e) = absurd (n (rw (same-tree z y) at i))
-  read-exactly z i (read p s y h e) = e ∙ ap (λ (t : Sum). checked (reduced m (meaning t m))) (same-tree y z)
+  read-exactly z i (read p s y h e) = e ∙ ap (λ (t : Sum). checked-text (reduced m (meaning t m))) (same-tree y z)
 
   pub high-exactly : (z : Sentence most-deep w) → (Within (z .tree) m → ⊥) → ReadsText m w r → r ≡ nothing (refusal Neither Limit)
   high-exactly z i (modulus p e) = absurd (never p ok)
@@ -166,137 +155,24 @@ write-determined (refused p a e) (wrote q b d) = absurd (never p q)
 write-determined (wrote p a e) (refused q b d) = absurd (never q p)
 write-determined (wrote p a e) (wrote q b d) = (e ∙ sym d, a ∙ sym b)
 
--- ---- the language, and the first fault
+-- reduced are below m, so that 2 passes
+pub two-passes : {m : ℕ} {f : List ℕ} → Reduced m f → check-polynomial First m f ≡ (check-degree First f then check-leading First f)
+unfolding check-polynomial check-coefficients
+two-passes {m} {f} red =
+    let full : offending m f ≡ length f = none-offending m f (record { below = λ j l. red .below j (rw (red .long) at l) }) in
+    rw (full, le-ltb (length f) (length f) (le-refl (length f))) refl
 
--- No. 13 or 14
-abbrev pub Misspelt : Outcome → Type 0
-Misspelt Answered = ⊥
-Misspelt (Refused e) = (number-of (e .reason) ≡ 13) ⊎ (number-of (e .reason) ≡ 14)
+-- ---- the writer's checks
 
-misspelt-by : {r : Answer} (o : Outcome) → r ≡ nothing o → Misspelt o → Misspelt (r .outcome)
-unfolding nothing
-misspelt-by o e h = rw e h
+module _ (m : ℕ) (f : List ℕ) (n : ℕ) where
+  pub text-refused : {e : Refusal} → check-one m f ≡ Refused e → check-text m f n ≡ Refused e
+  unfolding check-text
+  text-refused p = rw p refl
 
--- 10 is neither
-limit-spelled : {r : Answer} → r ≡ nothing (refusal Neither Limit) → Misspelt (r .outcome) → ⊥
-unfolding nothing
-limit-spelled e h = ⊎-elim (λ (x : 10 ≡ 13). omega arith) (λ (x : 10 ≡ 14). omega arith) (rw e at h)
+  pub text-short : check-one m f ≡ Answered → n < length (text-of f) → check-text m f n ≡ refusal Neither Area
+  unfolding check-text
+  text-short p l = rw (p, lt-ltb n (length (text-of f)) l) refl
 
--- nor are 3 and 4
-checked-spelled : {r : Answer} (f : List ℕ) → r ≡ checked f → Misspelt (r .outcome) → ⊥
-unfolding checked check-degree check-leading nothing
-checked-spelled f e h = go (ltb (degree f) 2) (not (eqb (coef f (degree f)) 1)) (rw e at h)
-  where
-    go : (s t : Bool) → Misspelt (answer (refuse s First Degree then refuse t First Leading) f .outcome) → ⊥
-    go true t x = ⊎-elim (λ (x : 3 ≡ 13). omega arith) (λ (x : 3 ≡ 14). omega arith) x
-    go false true x = ⊎-elim (λ (x : 4 ≡ 13). omega arith) (λ (x : 4 ≡ 14). omega arith) x
-    go false false x = x
-
--- what the reader says of the spelling, for a modulus that passes No. 1
-pub record Language (w : List ℕ) (r : Answer) : Type 0 where
-  pub taken : Sized w → Sentence most-deep w → Misspelt (r .outcome) → ⊥
-  pub spelled : (Misspelt (r .outcome) → ⊥) → Sized w × Sentence most-deep w
-
-pub read-language : {m : ℕ} {w : List ℕ} {r : Answer} → check-modulus m ≡ Answered → ReadsText m w r → Language w r
-read-language ok (modulus p e) = absurd (never p ok)
-read-language ok (unsized p n e) = record { taken = λ s z h. n s; spelled = λ h. absurd (h (misspelt-by _ e (inl refl))) }
-read-language ok (ninth p s n e) = record { taken = λ s z h. ninth-no-sentence n z; spelled = λ h. absurd (h (misspelt-by _ e (inr refl))) }
-read-language ok (misspelt p s n l e) = record { taken = λ s z h. l z; spelled = λ h. absurd (h (misspelt-by _ e (inl refl))) }
-read-language ok (high p s z n e) = record { taken = λ a b h. limit-spelled e h; spelled = λ h. (s, z) }
-read-language {m} ok (read p s z i e) = record { taken = λ a b h. checked-spelled (reduced m (meaning (z .tree) m)) e h; spelled = λ h. (s, z) }
-
--- an outcome's number
-abbrev code : Outcome → ℕ
-code Answered = 0
-code (Refused e) = number-of (e .reason)
-
-spelling-depth : {r : Answer} → r ≡ nothing (refusal Neither Spelling) → r .outcome ≡ refusal Neither Depth → ⊥
-unfolding nothing
-spelling-depth e h = let z : _≡_ {A = ℕ} 13 14 = ap code (sym (ap (λ (a : Answer). a .outcome) e) ∙ h) in omega arith
-
--- 14 tells of a ninth bracket
-depth-ninth : {m : ℕ} {w : List ℕ} {r : Answer} → check-modulus m ≡ Answered → ReadsText m w r → r .outcome ≡ refusal Neither Depth → Ninth w
-depth-ninth ok (modulus p e) h = absurd (never p ok)
-depth-ninth ok (unsized p n e) h = absurd (spelling-depth e h)
-depth-ninth ok (ninth p s n e) h = n
-depth-ninth ok (misspelt p s n l e) h = absurd (spelling-depth e h)
-depth-ninth ok (high p s z n e) h = absurd (limit-spelled e (rw h (inr refl)))
-depth-ninth {m} ok (read p s z i e) h = absurd (checked-spelled (reduced m (meaning (z .tree) m)) e (rw h (inr refl)))
-
--- and exactly of that
-pub read-ninth : {m : ℕ} {w : List ℕ} {r : Answer} → check-modulus m ≡ Answered → Sized w → ReadsText m w r → Ninth w ↔ (r .outcome ≡ refusal Neither Depth)
-unfolding nothing
-read-ninth ok s t = (λ n. ap (λ (a : Answer). a .outcome) (ninth-exactly ok s n t), depth-ninth ok t)
-
--- ---- an answer that is no refusal
-
--- 3 and 4 pass
-checked-answered : (f : List ℕ) → checked f .outcome ≡ Answered → (check-degree First f then check-leading First f) ≡ Answered
-unfolding checked nothing
-checked-answered f h = go (check-degree First f then check-leading First f) h
-  where
-    go : (o : Outcome) → answer o f .outcome ≡ Answered → o ≡ Answered
-    go Answered h = refl
-    go (Refused e) h = h
-
-checked-is : (f : List ℕ) → checked f .outcome ≡ Answered → checked f .polynomial ≡ f
-unfolding checked
-checked-is f h = rw (checked-answered f h) refl
-
--- it is a polynomial of the desk, and the meaning of the one tree modulo m
-pub record Means (m : ℕ) (w f : List ℕ) : Type 0 where
-  pub sentence : Sentence most-deep w
-  pub within : Within (sentence .tree) m
-  pub accepted : Accepted m f
-  pub same : Same m f (meaning (sentence .tree) m)
-
--- reduced are below m, so that 2 passes too
-reduced-accepted : (m : ℕ) (f : List ℕ) → check-modulus m ≡ Answered → (check-degree First (reduced m f) then check-leading First (reduced m f)) ≡ Answered → Accepted m (reduced m f)
-unfolding check-one check-polynomial check-coefficients
-reduced-accepted m f ok h =
-    let red : Reduced m (reduced m f) = reduced-reduced m (omega (arith, accepted-modulus ok)) f in
-    let full : offending m (reduced m f) ≡ length (reduced m f) = none-offending m (reduced m f) (record { below = λ j l. red .below j (rw (red .long) at l) }) in
-    accepted-one (red .long) (rw (ok, full, le-ltb (length (reduced m f)) (length (reduced m f)) (le-refl (length (reduced m f)))) h)
-
--- what is within the limit is low
-mutual
-  unfolding Within meaning built-specs.single limit
-
-  within-low : (s : Sum) (m : ℕ) → Within s m → Low m (meaning s m)
-  within-low (term p) m h = within-low-product p m h
-  within-low (negative p) m h = low-scaled (m - 1) (within-low-product p m h)
-  within-low (add s p) m h = h .2
-  within-low (subtract s p) m h = h .2
-
-  within-low-product : (p : Product) (m : ℕ) → WithinProduct p m → Low m (meaning-product p m)
-  within-low-product (single t) m h = within-low-factor t m h
-  within-low-product (multiply p t) m h = h .2
-
-  within-low-factor : (t : Factor) (m : ℕ) → WithinFactor t m → Low m (meaning-factor t m)
-  within-low-factor (plain b) m h = within-low-base b m h
-  within-low-factor (raised b c) m h = low-power (digits-value c) (h .1)
-
-  within-low-base : (b : Base) (m : ℕ) → WithinBase b m → Low m (meaning-base b m)
-  within-low-base (number c) m h = single-low (digits-value c) 0 (omega arith)
-  within-low-base unknown m h = single-low 1 1 (omega arith)
-  within-low-base (bracket s) m h = within-low s m h
-
-not-answered : (e : Refusal) {r : Answer} → r ≡ nothing (Refused e) → r .outcome ≡ Answered → ⊥
-unfolding nothing
-not-answered z e h = never (ap (λ (a : Answer). a .outcome) e) h
-
-pub read-accepted : {m : ℕ} {w : List ℕ} {r : Answer} → ReadsText m w r → r .outcome ≡ Answered → Means m w (r .polynomial)
-read-accepted (modulus p e) h = absurd (not-answered _ e h)
-read-accepted (unsized p n e) h = absurd (not-answered _ e h)
-read-accepted (ninth p s n e) h = absurd (not-answered _ e h)
-read-accepted (misspelt p s n l e) h = absurd (not-answered _ e h)
-read-accepted (high p s y n e) h = absurd (not-answered _ e h)
-read-accepted {m} (read p s y i e) h =
-    let o = sym (ap (λ (a : Answer). a .outcome) e) ∙ h in
-    let f = ap (λ (a : Answer). a .polynomial) e ∙ checked-is (reduced m (meaning (y .tree) m)) o in
-    record {
-      sentence = y;
-      within = i;
-      accepted = rw f (reduced-accepted m (meaning (y .tree) m) p (checked-answered (reduced m (meaning (y .tree) m)) o));
-      same = rw f (reduced-low (omega (arith, accepted-modulus p)) (within-low (y .tree) m i));
-    }
+  pub text-fits : check-one m f ≡ Answered → length (text-of f) ≤ n → check-text m f n ≡ Answered
+  unfolding check-text
+  text-fits p l = rw (p, le-ltb n (length (text-of f)) l) refl

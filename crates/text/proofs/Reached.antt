@@ -6,7 +6,7 @@
 --   fine-start                a state that is no fault has read what begins a sentence
 --   fine-good                 and a sentence where its verdict is good
 use mathlib.Core.Path.{_≡_, refl, sym, _∙_}
-use mathlib.Core.Bool.{Bool, true, false, cond, _&&_}
+use mathlib.Core.Bool.{Bool, true, false, cond, and-eq-true-iff}
 use mathlib.Core.List.{List, [], _∷_, _++_, append-assoc, append-nil}
 use Prim.Native.Nat.{ℕ, _+_, _≤_, _<_}
 use native.Mathlib.Omega.{arith}
@@ -105,13 +105,8 @@ pub by-cond : (P : State → Type 0) (t : Bool) {x y : State} → (t ≡ true �
 by-cond P true h g = h refl
 by-cond P false h g = g refl
 
-both : (a b : Bool) → (a && b) ≡ true → (a ≡ true) × (b ≡ true)
-both true true e = (refl, refl)
-both true false e = (refl, e)
-both false b e = absurd (let z : _≡_ {A = ℕ} 0 1 = cc in omega arith)
-
 pub digit-bounds : (b : ℕ) → is-digit b ≡ true → (48 ≤ b) × (b ≤ 57)
-digit-bounds b e = let (h, g) = both (leb 48 b) (leb b 57) e in (leb-true 48 b h, leb-true b 57 g)
+digit-bounds b e = let (h, g) = and-eq-true-iff (leb 48 b) (leb b 57) .0 e in (leb-true 48 b h, leb-true b 57 g)
 
 module _ {most : ℕ} {w : List ℕ} {st : List Frame} {f : Frame} where
   -- one byte more after the frame

@@ -2,6 +2,7 @@
 --
 --   run-append, run-stuck                     a text and then another; a fault stays
 --   product-plus, sum-plus, ..                a sign after a product, after a sum
+--   value-append, value-last                  the number of digits and then others, and then one
 --   digits-run, power-run                     the digits of a number, of a power
 --   base-run, factor-run, product-run, sum-run     the spelling of a tree leads to the state after it
 --   one-meaning                               two trees with one spelling are one tree
@@ -89,6 +90,10 @@ pub value-append : (v : ℕ) (a c : List ℕ) → digits-value-from v (a ++ c) �
 unfolding digits-value-from
 value-append v [] c = refl
 value-append v (b ∷ a) c = value-append (10 * v + (b - 48)) a c
+
+pub value-last : (c : List ℕ) (b : ℕ) → digits-value (c ++ (b ∷ [])) ≡ 10 * digits-value c + (b - 48)
+unfolding digits-value digits-value-from
+value-last c b = value-append 0 c (b ∷ [])
 
 value-less : (a c : List ℕ) → digits-value a ≤ digits-value (a ++ c)
 unfolding digits-value

@@ -23,10 +23,11 @@ use Rattle.algebra.proofs.Coefficients.{coef-plus}
 use Rattle.algebra.proofs.Highest.{degree-above, degree-below}
 use Rattle.algebra.proofs.Numbers.{table-ext}
 use Rattle.algebra.proofs.Reduction.{reduced-equal, reduced-reduced}
-use Rattle.polynomial.proofs.Acceptance.{accepted-modulus, accepted-one, degree-fits}
+use Rattle.polynomial.proofs.Acceptance.{accepted-modulus, accepted-one, polynomial-accepted, degree-fits}
 use Rattle.built.specs.Built as built-specs
 use Rattle.built.proofs.Singles.{single-same, single-other, single-high, number-times, x-term, zero-low}
 use Rattle.built.proofs.Joining.{reduced-low}
+use Rattle.refusal.specs.declared.Concerns.the-variants.{First}
 use Rattle.refusal.specs.declared.Outcome.the-variants.{Answered}
 use Rattle.polynomial.specs.declared.Answer.{Answer}
 use Rattle.polynomial.specs.Checks.{check-one, Accepted}
@@ -34,15 +35,14 @@ use Rattle.digits.specs.Digits.{decimal, digits, most-digits, digit}
 use Rattle.text.specs.Grammar.{Sum, Product, term, add, single, multiply, plain, raised, number, unknown, spell, digits-value, digits-value-from, AllDigits, Decimal, Fits, FitsProduct, most-deep}
 use Rattle.text.specs.Language.{Sentence}
 use Rattle.text.specs.Meaning.{meaning, meaning-product, Within, WithinProduct}
-use Rattle.text.specs.Answers.{Sized, ReadsText, check-text, WritesText, refused, wrote, checked}
+use Rattle.text.specs.Answers.{Sized, ReadsText, check-text, WritesText, refused, wrote, checked-text}
 use Rattle.text.specs.declared.Written.{Written}
 use Rattle.refusal.proofs.Outcomes.{never, then-both}
 use Rattle.text.specs.Writing.{term-text, lower-term, lower, text-of, most-term}
 use Rattle.digits.proofs.Text.{tens, small, large}
 use Rattle.text.proofs.Reached.{all-more}
-use Rattle.text.proofs.Counting.{value-last}
-use Rattle.text.proofs.Promises.{read-exactly}
-use Rattle.text.proofs.Judging.{checked-fine}
+use Rattle.text.proofs.Spelling.{value-last}
+use Rattle.text.proofs.Promises.{read-exactly, two-passes}
 
 -- ---- digits
 
@@ -289,14 +289,10 @@ module _ {m : ℕ} {f : List ℕ} (ok : Accepted m f) where
 
   -- reading the written text answers the polynomial
   pub reads-back : {r : Answer} → ReadsText m (text-of f) r → r ≡ record { outcome = Answered; polynomial = f }
-  unfolding sentence-of terms
+  unfolding sentence-of terms checked-text
   reads-back t =
       read-exactly (ok .modulus) (written-sized f tens-of (degree-fits ok)) sentence-of (tree-within f m tens-of (degree-fits ok)) t
-      ∙ ap checked same-reduced
-      ∙ sym (checked-fine (record { long = ok .reduced .long; is = refl }) (ok .two) top)
-    where
-      top : coef f (degree f) ≡ 1
-      top = sym (N.mod-eq-of-lt (ok .reduced .below (degree f) (rw (ok .reduced .long) at (degree-below f (omega (arith, ok .reduced .long)))))) ∙ ok .monic .top ∙ N.mod-eq-of-lt (accepted-modulus (ok .modulus) .above-one)
+      ∙ ap checked-text same-reduced ∙ rw (sym (two-passes (ok .reduced)) ∙ polynomial-accepted First ok) refl
 
 -- what the writer wrote, read, answers the polynomial
 pub written-read-back : {m : ℕ} {f xs ys : List ℕ} {x : Written} {r : Answer} → length f ≡ terms → WritesText m f xs ys x → x .outcome ≡ Answered

@@ -2,7 +2,8 @@
 --
 --   most-bytes             the longest text
 --   Sized w                1 to 8,192 bytes
---   answer o f             the outcome o, and f beside it if it is an answer
+--   answer-text o f        the outcome o, and f beside it if it is an answer
+--   checked-text f         f, or the refusal of 3 or 4
 --   ReadsText m w r        r is what the reader answers for the text w
 --   check-text m f n       the writer's checks, of an area of n bytes: 1 to 4, then 11
 --   WritesText m f xs ys r r is what the writer answers for f, and ys the area afterwards, which was xs
@@ -38,13 +39,13 @@ pub record Sized (w : List ℕ) : Type 0 where
   pub few : length w ≤ most-bytes
 
 -- the polynomial, and zeros beside a refusal
-abbrev pub answer : Outcome → List ℕ → Answer
-answer Answered f = record { outcome = Answered; polynomial = f }
-answer (Refused e) f = nothing (Refused e)
+abbrev pub answer-text : Outcome → List ℕ → Answer
+answer-text Answered f = record { outcome = Answered; polynomial = f }
+answer-text (Refused e) f = nothing (Refused e)
 
 -- 3 and 4
-unfoldable pub checked : List ℕ → Answer
-checked f = answer (check-degree First f then check-leading First f) f
+unfoldable pub checked-text : List ℕ → Answer
+checked-text f = answer-text (check-degree First f then check-leading First f) f
 
 -- in their order: 1; 13 for length; 14 or 13 for the first fault; 10; 3, 4
 pub data ReadsText (m : ℕ) (w : List ℕ) (r : Answer) : Type 0 where
@@ -53,7 +54,7 @@ pub data ReadsText (m : ℕ) (w : List ℕ) (r : Answer) : Type 0 where
   ninth : check-modulus m ≡ Answered → Sized w → Ninth w → r ≡ nothing (refusal Neither Depth) → ReadsText m w r
   misspelt : check-modulus m ≡ Answered → Sized w → (Ninth w → ⊥) → (Sentence most-deep w → ⊥) → r ≡ nothing (refusal Neither Spelling) → ReadsText m w r
   high : check-modulus m ≡ Answered → Sized w → (z : Sentence most-deep w) → (Within (z .tree) m → ⊥) → r ≡ nothing (refusal Neither Limit) → ReadsText m w r
-  read : check-modulus m ≡ Answered → Sized w → (z : Sentence most-deep w) → Within (z .tree) m → r ≡ checked (reduced m (meaning (z .tree) m)) → ReadsText m w r
+  read : check-modulus m ≡ Answered → Sized w → (z : Sentence most-deep w) → Within (z .tree) m → r ≡ checked-text (reduced m (meaning (z .tree) m)) → ReadsText m w r
 
 -- 1 to 4 of f, then 11 if the area is shorter than the text
 unfoldable pub check-text : ℕ → List ℕ → ℕ → Outcome

@@ -4,4 +4,3 @@ pub mod Language
 pub mod Writing
 pub mod Answers
 pub mod States
-pub mod Reading

@@ -9,7 +9,7 @@ use Rattle.algebra.specs.Polynomial.{terms, limit}
 use Rattle.algebra.proofs.Reduction.{degree-monic}
 use Rattle.area.specs.Area.{most-parts, area-words}
 use Rattle.algebra.proofs.Chains.{sum-within}
-use Rattle.chain.proofs.Asking.{left-asked, inverse-next}
+use Rattle.round.proofs.Asking.{left-asked, inverse-next}
 use Rattle.chain.proofs.Placing.{chained-whole, chained-more, chained-within, next-place, left-less}
 use Rattle.chain.proofs.parts.Reads as parts
 use Rattle.chain.proofs.parts.Kinds as parts-kinds
@@ -17,7 +17,7 @@ use Rattle.chain.proofs.+parts.Lts-parts as parts-lts
 use Rattle.area.proofs.put.Reads as put-reads
 use Rattle.chain.proofs.cost.Reads as cost-reads
 use Rattle.residue.proofs.multiply.Reads as multiply-reads
-use Rattle.chain.proofs.first_split.Reads as first-split-reads
+use Rattle.round.proofs.first_split.Reads as first-split-reads
 use Rattle.chain.proofs.+parts.{statement}
 use Rattle.chain.proofs.+parts.Tie.{close}
 

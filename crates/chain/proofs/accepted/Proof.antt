@@ -1,6 +1,6 @@
 use mathlib.Core.Path.{refl, ap, _∙_}
 use borrow.Author.Needs.{needs}
-use Rattle.residue.proofs.Inverses.{inverse-coprime, shared-not-coprime}
+use Rattle.inverse.proofs.Inverses.{inverse-coprime, shared-not-coprime}
 use Rattle.chain.specs.Chaining.{factor, parts, unchained}
 use Rattle.chain.proofs.accepted.Statement.{statement}
 use Rattle.chain.proofs.accepted.Tie as tie

@@ -1,7 +1,7 @@
 use mathlib.Core.Path.{sym}
 use mathlib.Core.Bool.{false≢true}
 use borrow.Author.Needs.{needs}
-use Rattle.residue.proofs.Inverses.{inverse-coprime, shared-not-coprime}
+use Rattle.inverse.proofs.Inverses.{inverse-coprime, shared-not-coprime}
 use Rattle.chain.proofs.shares.Statement.{statement}
 use Rattle.chain.proofs.shares.Tie as tie
 

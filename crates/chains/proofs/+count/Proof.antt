@@ -6,13 +6,13 @@ use borrow.Fn.Kinds.{In}
 use borrow.Fn.PlainCycle.{Measures, is, falls, and}
 use Rattle.algebra.specs.Polynomial.{limit}
 use Rattle.algebra.proofs.Chains.{sum-within}
-use Rattle.chain.proofs.Asking.{chainable, left-asked}
-use Rattle.chain.proofs.Rounds.{half-degrees}
+use Rattle.round.proofs.Asking.{chainable, left-asked}
+use Rattle.round.proofs.Rounds.{half-degrees}
 use Rattle.chains.proofs.Counting.{undivided, Below, below-none, below-pass, below-take, below-few, counted-one, counted-all}
 use Rattle.chains.proofs.count.Reads as count
 use Rattle.chains.proofs.count.Kinds as count-kinds
 use Rattle.chains.proofs.+count.Lts-count as count-lts
-use Rattle.chains.proofs.rightmost.Reads as rightmost-reads
+use Rattle.ending.proofs.rightmost.Reads as rightmost-reads
 use Rattle.chains.proofs.+count.{statement}
 use Rattle.chains.proofs.+count.Tie.{close}
 

@@ -10,8 +10,8 @@ use Rattle.algebra.specs.Polynomial.{terms, limit}
 use Rattle.algebra.proofs.Chains.{sum-within}
 use Rattle.algebra.proofs.Complete.{degree-is, right-degree}
 use Rattle.area.specs.Area.{most-parts, area-words}
-use Rattle.chain.proofs.Asking.{chainable, left-asked}
-use Rattle.chain.proofs.Rounds.{half-degrees}
+use Rattle.round.proofs.Asking.{chainable, left-asked}
+use Rattle.round.proofs.Rounds.{half-degrees}
 use Rattle.chains.proofs.Counting.{undivided}
 use Rattle.chains.proofs.Walking.{Gone, gone-none, gone-pass, gone-take, walked-yes, walked-no, room-next, more-price, reached-more, all-passed, one-passed, reached-one}
 use Rattle.chains.proofs.walk.Reads as walk
@@ -21,7 +21,7 @@ use Rattle.area.proofs.put.Reads as put-reads
 use Rattle.chain.proofs.cost.Reads as cost-reads
 use Rattle.chains.proofs.reached.Reads as reached-reads
 use Rattle.chains.proofs.passed.Reads as passed-reads
-use Rattle.chains.proofs.rightmost.Reads as rightmost-reads
+use Rattle.ending.proofs.rightmost.Reads as rightmost-reads
 use Rattle.chains.proofs.+walk.{statement}
 use Rattle.chains.proofs.+walk.Tie.{close}
 

@@ -1,6 +1,6 @@
 use native.Mathlib.Omega.{arith}
 use borrow.Author.Needs.{needs}
-use Rattle.residue.proofs.Inverses.{shared-not-coprime}
+use Rattle.inverse.proofs.Inverses.{shared-not-coprime}
 use Rattle.change.proofs.Answering.{tests-no, tests-yes}
 use Rattle.change.proofs.proper.Statement.{statement}
 use Rattle.change.proofs.proper.Tie as tie

@@ -6,7 +6,8 @@ use borrow.Author.Needs.{needs}
 use borrow.Author.Tests.{not-true, not-false}
 use lib.Seq.{length-take-le}
 use Rattle.algebra.specs.Polynomial.{terms, limit}
-use Rattle.left.proofs.Expanding.{lowest-digits, top-flat, lowest-top, remainder-asked, raised-asked}
+use Rattle.division.proofs.Asked.{remainder-asked, raised-asked}
+use Rattle.left.proofs.Expanding.{lowest-digits, top-flat, lowest-top}
 use Rattle.left.proofs.block.Statement.{statement}
 use Rattle.left.proofs.block.Tie as tie
 

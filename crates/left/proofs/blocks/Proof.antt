@@ -5,8 +5,9 @@ use borrow.Author.Needs.{needs}
 use borrow.Author.Tests.{not-true, not-false}
 use lib.ListN.{length, length-drop}
 use Rattle.algebra.specs.Polynomial.{terms, limit}
-use Rattle.left.proofs.Pieces.{lent, returned}
-use Rattle.left.proofs.Expanding.{Reached, reached-none, reached-more, reached-no, reached-last, reached-asked, raised-asked}
+use Rattle.division.proofs.Pieces.{lent, returned}
+use Rattle.division.proofs.Asked.{raised-asked}
+use Rattle.left.proofs.Expanding.{Reached, reached-none, reached-more, reached-no, reached-last, reached-asked}
 use Rattle.left.proofs.blocks.Statement.{statement}
 use Rattle.left.proofs.blocks.Tie as tie
 

@@ -4,7 +4,7 @@ use borrow.Author.Needs.{needs}
 use borrow.Author.Tests.{not-true, not-false}
 use lib.ListN.{length, length-drop, take-append-drop}
 use Rattle.algebra.specs.Polynomial.{terms, limit}
-use Rattle.left.proofs.Pieces.{lent, returned}
+use Rattle.division.proofs.Pieces.{lent, returned}
 use Rattle.left.proofs.Expanding.{Reached, reached-none, reached-more, reached-no, reached-last, reached-asked, flat-digits}
 use Rattle.left.proofs.digits.Statement.{statement}
 use Rattle.left.proofs.digits.Tie as tie

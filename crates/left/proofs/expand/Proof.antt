@@ -4,7 +4,7 @@ use native.Mathlib.Omega.{arith}
 use borrow.Author.Needs.{needs}
 use borrow.Author.Tests.{not-true, not-false}
 use Rattle.algebra.specs.Polynomial.{terms, limit}
-use Rattle.left.proofs.Pieces.{lent, returned}
+use Rattle.division.proofs.Pieces.{lent, returned}
 use Rattle.left.proofs.Expanding.{digits-long, lowest-no, reached-first, reached-last, reached-asked}
 use Rattle.left.proofs.expand.Statement.{statement}
 use Rattle.left.proofs.expand.Tie as tie

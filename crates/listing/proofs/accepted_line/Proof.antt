@@ -3,13 +3,13 @@ use mathlib.Core.Bool.{false}
 use native.Mathlib.Omega.{arith}
 use borrow.Author.Needs.{needs}
 use Rattle.algebra.specs.Polynomial.{terms, limit}
-use Rattle.refusal.specs.Refusal.{is-refused}
+use Rattle.refusal.specs.Refusal.{is-refused, number-of}
 use Rattle.area.specs.Area.{most-parts, area-words}
 use Rattle.polynomial.specs.Moduli.{modulus}
 use Rattle.polynomial.proofs.Acceptance.{accepted-modulus, accepted-one}
 use Rattle.chain.specs.Chaining.{ChainOf}
 use Rattle.chain.proofs.Answering.{chain-given}
-use Rattle.listing.specs.Listing.{blank}
+use Rattle.listing.specs.Listing.{zero-area}
 use Rattle.listing.proofs.Telling.{told-blank, Fitting, told-answered, told-unchained, told-chained}
 use Rattle.listing.proofs.accepted_line.Statement.{statement}
 use Rattle.listing.proofs.accepted_line.Tie as tie
@@ -28,7 +28,7 @@ accepted-requires c κs =
 
 -- what the chain answers
 module _ (a : tie.After-accepted) where
-  chained : ChainOf (modulus (a .before .before .before .before .before .args .m)) (a .before .before .before .before .before .args .f) blank (a .accepted .last .1 .1 .0) (a .accepted .result)
+  chained : ChainOf (modulus (a .before .before .before .before .before .args .m)) (a .before .before .before .before .before .args .f) zero-area (a .accepted .last .1 .1 .0) (a .accepted .result)
   unfolding area-words most-parts terms limit
   chained = told-blank (a .before .before .before .before .before .pre .0) (a .before .before .before .before .before .pre .1) (rw (a .before .before .made-ready .ensures .0 ∙ a .before .before .before .modulus .ensures) at (a .accepted .ensures))
 

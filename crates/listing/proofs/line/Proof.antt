@@ -1,5 +1,6 @@
 use native.Mathlib.Omega.{arith}
 use borrow.Author.Needs.{needs}
+use Rattle.refusal.specs.Refusal.{number-of}
 use Rattle.record.proofs.Answers.{check-answered, one-checked}
 use Rattle.listing.proofs.Telling.{told-refused, told-accepted}
 use Rattle.listing.proofs.line.Statement.{statement}

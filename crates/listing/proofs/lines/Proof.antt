@@ -34,9 +34,10 @@ add-k c =
     omega (arith, l .inv .whole (c .before .before .before .before .before .before .loop-test .taken))
 
 loop-again : tie.Need-loop-again Inv-loop μ-loop
+unfolding record-bytes terms limit
 loop-again c =
     let l = c .before .before .before .before .before .before .before .loop in
-    turned _ _ _ (l .inv) (c .before .before .before .before .before .before .loop-test .taken) (c .before .before .before .before .before .record-end .ensures) (c .before .before .line .ensures)
+    turned _ _ _ (l .inv) (c .before .before .before .before .before .before .loop-test .taken) (c .before .before .before .before .before .smaller .ensures) (c .before .before .line .ensures)
 
 returns : tie.Need-returns Inv-loop μ-loop
 returns c = ended _ _ _ (c .before .loop .inv) (c .loop-test .left) (omega arith)
@@ -49,6 +50,7 @@ lines-spec =
     Inv-loop
     μ-loop
     loop-holds
+    (λ c. omega arith)
     (λ c κs. search needs)
     (λ c. search needs)
     (λ c. search needs)

@@ -2,7 +2,7 @@ use mathlib.Core.Path.{sym, _∙_}
 use native.Mathlib.Omega.{arith}
 use borrow.Author.Needs.{needs}
 use Rattle.algebra.specs.Polynomial.{limit, terms}
-use Rattle.residue.proofs.Inverses.{inverse-coprime, shared-not-coprime}
+use Rattle.inverse.proofs.Inverses.{inverse-coprime, shared-not-coprime}
 use Rattle.pair.proofs.Answering.{quick-refused, quick-shared, quick-told}
 use Rattle.pair.proofs.Determined.{split-modulus, split-given}
 use Rattle.pair.proofs.Forcing.{below-rows}

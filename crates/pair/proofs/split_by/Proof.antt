@@ -5,7 +5,7 @@ use native.Mathlib.Omega.{arith}
 use borrow.Author.Needs.{needs}
 use borrow.Author.Tests.{not-true}
 use Rattle.algebra.specs.Polynomial.{limit, terms}
-use Rattle.residue.proofs.Inverses.{inverse-coprime, shared-not-coprime}
+use Rattle.inverse.proofs.Inverses.{inverse-coprime, shared-not-coprime}
 use Rattle.polynomial.specs.Answers.{no-parts}
 use Rattle.right.specs.Rows.{words}
 use Rattle.right.proofs.Columns.{room-none}

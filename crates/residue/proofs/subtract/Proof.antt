@@ -1,6 +1,6 @@
 use native.Mathlib.Omega.{arith}
 use borrow.Author.Needs.{needs}
-use Rattle.residue.proofs.Congruent.{from-eq, wrapped, remainder}
+use Rattle.algebra.proofs.Congruent.{from-eq, wrapped, remainder}
 use Rattle.residue.proofs.subtract.Statement.{statement}
 use Rattle.residue.proofs.subtract.Tie as tie
 

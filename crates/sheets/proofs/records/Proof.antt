@@ -1,13 +1,13 @@
 use native.Mathlib.Omega.{arith}
 use Rattle.algebra.specs.Polynomial.{limit, terms}
 use Rattle.record.specs.Record.{record-bytes}
-use Rattle.sheets.specs.Sheets.{most-records, buffer-bytes, records}
+use Rattle.sheets.specs.Sheets.{most-sheets, sheets-buffer, records}
 use borrow.Author.Needs.{needs}
 use Rattle.sheets.proofs.records.Statement.{statement}
 use Rattle.sheets.proofs.records.Tie as tie
 
 pub records-spec : {M : Type 1} → statement M
-unfolding records buffer-bytes most-records record-bytes terms limit
+unfolding records sheets-buffer most-sheets record-bytes terms limit
 records-spec =
     tie.close
     (tie.spec

@@ -7,7 +7,7 @@ use Rattle.area.specs.Area.{most-parts}
 use Rattle.algebra.specs.Polynomial.{limit, terms}
 use Rattle.record.specs.Record.{record-bytes}
 use Rattle.sheet.specs.Sheet.{sheet-bytes}
-use Rattle.sheets.specs.Sheets.{most-records, buffer-bytes, records, SheetOf}
+use Rattle.sheets.specs.Sheets.{most-sheets, sheets-buffer, records, SheetOf}
 use Rattle.sheets.proofs.Pieces.{cut-short}
 use Rattle.sheets.proofs.Writing.{Begun, begun-none, begun-more, begun-all}
 use borrow.Author.Needs.{needs}
@@ -24,7 +24,7 @@ loop-holds : tie.Need-loop-holds Inv-loop μ-loop
 loop-holds c = (omega arith, search needs, begun-none _ _)
 
 loop-again : tie.Need-loop-again Inv-loop μ-loop
-unfolding records buffer-bytes most-records sheet-bytes record-bytes most-parts terms limit
+unfolding records sheets-buffer most-sheets sheet-bytes record-bytes most-parts terms limit
 loop-again c =
     let turn = c .before .before .before .before .before .before .before in
     let l = turn .loop in
@@ -34,14 +34,14 @@ loop-again c =
     (omega arith, search needs, begun-more (a .s .now) (a .out .now) (l .i) (omega (arith, turn .before .records .ensures)) (search needs) (l .inv .2) new (ap (λ (n : ℕ). take (l .i * sheet-bytes) (l .out) ++ (c .before .before .sheet-of .last .1 .0 ++ drop n (drop (l .i * sheet-bytes) (l .out)))) e))
 
 returns : tie.Need-returns Inv-loop μ-loop
-unfolding records buffer-bytes most-records sheet-bytes record-bytes most-parts terms limit
+unfolding records sheets-buffer most-sheets sheet-bytes record-bytes most-parts terms limit
 returns c =
     let l = c .before .loop in
     let e = c .before .before .records .ensures in
     begun-all _ _ {i = l .i} (omega arith) (omega arith) (omega arith) (l .inv .2)
 
 pub sheets-spec : {M : Type 1} → statement M
-unfolding records buffer-bytes most-records sheet-bytes record-bytes most-parts terms limit
+unfolding records sheets-buffer most-sheets sheet-bytes record-bytes most-parts terms limit
 sheets-spec =
     tie.close
     (tie.spec

@@ -1,33 +1,41 @@
-use mathlib.Core.Path.{sym}
+use mathlib.Core.Path.{refl}
 use native.Mathlib.Omega.{arith}
-use lib.Seq.{length-take-le}
-use Rattle.area.specs.Area.{most-parts}
-use Rattle.algebra.specs.Polynomial.{limit, terms}
+use borrow.Author.Needs.{needs}
+use Rattle.algebra.specs.Polynomial.{terms, limit}
 use Rattle.record.specs.Record.{record-bytes}
+use Rattle.area.specs.Area.{most-parts}
 use Rattle.sheet.specs.Sheet.{sheet-bytes}
 use Rattle.reading.specs.Reading.{most-listed, most-read}
-use Rattle.sheets.specs.Sheets.{most-records, buffer-bytes}
-use Rattle.sheets.proofs.Writing.{sheets-within}
-use borrow.Author.Needs.{needs}
+use Rattle.reading.specs.Running.{failed}
+use Rattle.reading.proofs.Running.{turn-on, turn-ended}
+use Rattle.sheets.specs.Sheets.{most-sheets, sheets-buffer, Makes}
 use Rattle.sheets.proofs.turn.Statement.{statement}
 use Rattle.sheets.proofs.turn.Tie as tie
 
 step-requires : tie.Need-step-requires
-unfolding most-read most-listed buffer-bytes most-records sheet-bytes most-parts record-bytes terms limit
+unfolding most-read most-listed sheets-buffer most-sheets sheet-bytes most-parts record-bytes terms limit
 step-requires c κs =
-    let came = rw (c .before .before .before .more2 .given .1) at (c .before .before .before .before .before .before .before .more .ensures) in
+    let k = c .before .before .before in
+    let came = rw (k .more2 .given .1) at (k .before .before .before .before .more .ensures) in
+    let (a, b) = came .brings in
     omega arith
 
-slice-aggregate-put-2 : tie.Need-slice-aggregate-put-2
-slice-aggregate-put-2 c = sym (length-take-le _ _ (omega (arith, sheets-within (c .before .before .before .before .before .before .step .ensures .sheets))))
+returns-3 : tie.Need-returns-3
+unfolding sheets-buffer most-sheets record-bytes terms limit
+returns-3 c =
+    let k = c .before .before .before .before .before .before .before .before .before .before in
+    turn-ended Makes (rw (k .more2 .given .1) at (k .before .before .before .before .more .ensures)) (c .if2 .taken) (c .before .before .before .before .before .before .step .ensures) refl
 
-returns-2 : tie.Need-returns-2
-returns-2 c =
-    let came = rw (c .before .before .before .before .before .before .before .before .before .before .before .before .more2 .given .1) at (c .before .before .before .before .before .before .before .before .before .before .before .before .before .before .before .before .more .ensures) in
-    came .0
+returns-4 : tie.Need-returns-4
+unfolding sheets-buffer most-sheets record-bytes terms limit
+returns-4 c =
+    let k = c .before .before .before .before .before .before .before .before .before .before in
+    let came = rw (k .more2 .given .1) at (k .before .before .before .before .more .ensures) in
+    let (a, b) = came .brings in
+    turn-on Makes came (omega arith) (omega arith) (c .before .before .before .before .before .before .step .ensures) refl
 
 pub turn-spec : {M : Type 1} → statement M
-unfolding buffer-bytes most-records sheet-bytes most-parts record-bytes terms limit
+unfolding sheets-buffer most-sheets record-bytes terms limit
 turn-spec =
     tie.close
     (tie.spec
@@ -36,15 +44,14 @@ turn-spec =
     (λ c. search needs)
     (λ c. search needs)
     (λ c. search needs)
-    (λ c. search needs)
+    (λ c. failed refl)
     step-requires
     (λ c. search needs)
-    (λ c. omega (arith, sheets-within (c .before .before .before .before .before .step .ensures .sheets)))
-    slice-aggregate-put-2
-    (λ c κs. search needs)
+    (λ c. search needs)
+    (λ c. failed refl)
     (λ c. search needs)
     (λ c. search needs)
-    returns-2
+    returns-3
     (λ c. search needs)
     (λ c. search needs)
-    (λ c. search needs))
+    returns-4)

@@ -3,7 +3,7 @@ use borrow.Author.Needs.{needs}
 use borrow.Author.Tests.{not-true, not-false}
 use Rattle.refusal.specs.declared.Outcome.the-variants.{Answered}
 use Rattle.polynomial.specs.Moduli.{check-modulus}
-use Rattle.change.specs.Changing.{unchanged, refused, not-proper, combined}
+use Rattle.change.specs.Changing.{unchanged, refused, first-improper, second-improper, combined}
 use Rattle.refusal.proofs.Outcomes.{refused-by, passed-on}
 use Rattle.polynomial.proofs.Acceptance.{accepted-modulus}
 use Rattle.change.proofs.Change.combine.Statement.{statement}
@@ -24,15 +24,16 @@ proper-requires c κs = accepted-modulus (passed c)
 returns-2 : tie.Need-returns-2
 returns-2 c =
     let t = c .before .before .before .before in
-    rw (← t .before .before .before .before .modulus .ensures) (not-proper (passed (t .before)) (λ p q. t .proper .ensures .no (not-true _ (c .before .before .if2 .taken)) p) (c .unchanged2 .ensures ∙ ap unchanged (c .before .improper .ensures)))
+    rw (← t .before .before .before .before .modulus .ensures) (first-improper (passed (t .before)) (t .proper .ensures .no (not-true _ (c .before .before .if2 .taken))) (c .unchanged2 .ensures ∙ ap unchanged (c .before .improper .ensures)))
 
 proper-requires-2 : tie.Need-proper-requires-2
 proper-requires-2 c κs = accepted-modulus (passed (c .before .before .before))
 
 returns-3 : tie.Need-returns-3
 returns-3 c =
-    let t = c .before .before .before .before in
-    rw (← t .before .before .before .before .before .before .before .modulus .ensures) (not-proper (passed (t .before .before .before .before)) (λ p. t .proper2 .ensures .no (not-true _ (c .before .before .if3 .taken))) (c .unchanged3 .ensures ∙ ap unchanged (c .before .improper2 .ensures)))
+    let second = c .before .before .before .before in
+    let first = second .before .before .before in
+    rw (← first .before .before .before .before .modulus .ensures) (second-improper (passed (first .before)) (first .proper .ensures .yes (not-false _ (second .before .if2 .left)) .0) (second .proper2 .ensures .no (not-true _ (c .before .before .if3 .taken))) (c .unchanged3 .ensures ∙ ap unchanged (c .before .improper2 .ensures)))
 
 made-ready-requires : tie.Need-made-ready-requires
 made-ready-requires c κs = accepted-modulus (passed (c .before .before .before .before .before .before))

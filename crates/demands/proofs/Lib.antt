@@ -1,0 +1,17 @@
+pub mod Exact
+pub mod Quick
+pub mod Chain
+pub mod Chains
+pub mod SplitChanged
+pub mod ChainChanged
+pub mod Changes
+pub mod Order
+pub mod Listed
+pub mod Laid
+pub mod Sheets
+pub mod Texts
+pub mod NoTwo
+pub mod MachineWords
+pub mod Padded
+pub mod Worked
+pub mod Demands
