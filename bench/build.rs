@@ -8,9 +8,6 @@ fn main() {
     println!("cargo:rustc-link-search=native={}", lib.display());
     for name in ["measure", "desk"] {
         println!("cargo:rustc-link-lib=static={name}");
-        println!(
-            "cargo:rerun-if-changed={}",
-            lib.join(format!("lib{name}.a")).display()
-        );
+        println!("cargo:rerun-if-changed={}", lib.join(format!("lib{name}.a")).display());
     }
 }

@@ -28,8 +28,9 @@
 extern "C" {
 #endif
 
-#define DESK_TERMS 127                       /* coefficients of a polynomial */
-#define DESK_PARTS 6                         /* parts of a chain at most */
+#define DESK_LIMIT 126                       /* the highest degree */
+#define DESK_TERMS (DESK_LIMIT + 1)          /* coefficients of a polynomial */
+#define DESK_PARTS 6                         /* parts of a chain at most: none has a degree below 2 */
 #define DESK_WORDS (DESK_PARTS * DESK_TERMS) /* words of a chain area that are used */
 #define DESK_BYTES (4 * (1 + DESK_TERMS))    /* bytes of a record: the modulus, then the coefficients */
 #define DESK_SHEET (DESK_PARTS * DESK_BYTES) /* bytes of a chain sheet that are used: a record for each place of an area */
@@ -45,10 +46,11 @@ typedef uint32_t desk_polynomial[DESK_TERMS];
  *    3  the degree is below 2, or all is zero       8  a or b is m or more, or a has no inverse
  *    4  the leading coefficient is not 1            9  fewer bytes than a record has
  *    5  r, or a chain's n, shares a factor with m
- *   10  the composed degree is too high, or a sum, product or power in a text has a nonzero coefficient above x^126
+ *   10  the composed degree is too high, or a sum, product or power in a text has a nonzero coefficient above
+ *      x^DESK_LIMIT
  *   11  the area has fewer than DESK_WORDS words, or the sheet has fewer than DESK_SHEET bytes, or the text does not fit its area
  *   12  the used places are not the first ones, or none is used, or the moduli of a sheet differ
- *   13  the text is misspelt, or a power in it is above 126, or it has no byte or more than DESK_TEXT_BYTES
+ *   13  the text is misspelt, or a power in it is above DESK_LIMIT, or it has no byte or more than DESK_TEXT_BYTES
  *   14  a ninth bracket is opened inside eight
  *   18  j is not below the number of chains
  * polynomial: which one 2, 3 and 4 concern, 1 the first, 2 the second, 16 + i that in place i, from 0, of a sheet or of the
@@ -98,8 +100,8 @@ desk_refused desk_write_sheet(uint32_t m, const uint32_t *area, size_t words, ui
 desk_refused desk_read_sheet(const uint8_t *sheet, size_t bytes, uint32_t *area, size_t words, uint32_t *modulus,
                              desk_polynomial f);
 /* the f that a text means, as (x^2+x)^2-3*x: sums and differences of products; the factors of a product, with * between them, are
- * numbers, x, and sums in brackets, at most 8 in one another, each with or without a power, 0 to 126; a sum may begin with a
- * minus. A number, a power too, has at most 10 digits. No spaces, and no zero byte at the end. */
+ * numbers, x, and sums in brackets, at most 8 in one another, each with or without a power, 0 to DESK_LIMIT; a sum may
+ * begin with a minus. A number, a power too, has at most 10 digits. No spaces, and no zero byte at the end. */
 desk_refused desk_read_text(uint32_t m, const uint8_t *text, size_t count, desk_polynomial f);
 /* f as a text that reads back to it, as 1*x^2+1*x^1+3*x^0, with no zero byte at the end; length: its bytes, 0 after a refusal */
 desk_refused desk_write_text(uint32_t m, const desk_polynomial f, uint8_t *area, size_t count, size_t *length);

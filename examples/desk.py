@@ -14,8 +14,9 @@ import operator
 import os
 import pathlib
 
-TERMS = 127  # coefficients of a polynomial
-PARTS = 6  # parts of a chain at most
+LIMIT = 126  # the highest degree
+TERMS = LIMIT + 1  # coefficients of a polynomial
+PARTS = LIMIT.bit_length() - 1  # parts of a chain at most: none has a degree below 2
 WORDS = PARTS * TERMS  # words of a chain area that are used
 BYTES = 4 * (1 + TERMS)  # bytes of a record: the modulus, then the coefficients
 SHEET = PARTS * BYTES  # bytes of a chain sheet that are used: a record for each place of an area
@@ -33,10 +34,10 @@ REASONS = {
     7: "no pair; no left part",
     8: "a or b is m or more, or a has no inverse",
     9: "fewer bytes than a record has",
-    10: "the composed degree is too high, or a sum, product or power in a text has a nonzero coefficient above x^126",
+    10: f"the composed degree is too high, or a sum, product or power in a text has a nonzero coefficient above x^{LIMIT}",
     11: f"the area has fewer than {WORDS} words, or the sheet has fewer than {SHEET} bytes, or the text does not fit its area",
     12: "the used places are not the first ones, or none is used, or the moduli of a sheet differ",
-    13: f"the text is misspelt, or a power in it is above 126, or it has no byte or more than {TEXT_BYTES}",
+    13: f"the text is misspelt, or a power in it is above {LIMIT}, or it has no byte or more than {TEXT_BYTES}",
     14: "a ninth bracket is opened inside eight",
     18: "j is not below the number of chains",
 }
@@ -45,7 +46,8 @@ REASONS = {
 class Refused(Exception):
     """A refusal of 01 or 02: its number, the polynomial it concerns, and the power of x.
 
-    The polynomial is "first", "second", "place 0" to "place 5" (of a sheet, or of the area that is written as one) or None.
+    The polynomial is "first", "second", "place 0", "place 1" and so on (of a sheet, or of the area that is written as one) or
+    None.
     The power is the lowest whose coefficient offends for No. 2, and 0 for all others.
     """
 

@@ -1,22 +1,9 @@
 //! Splits 01's polynomial B at each left degree, asks there for the quick answer, and prints its chain.
 
-const TERMS: usize = 127;
-const WORDS: usize = 6 * TERMS;
-type Polynomial = [u32; TERMS];
+#[path = "../rust/desk.rs"]
+mod desk;
 
-#[repr(C)]
-struct Refused {
-    number: u32,
-    polynomial: u32,
-    power: u32,
-}
-
-extern "C" {
-    fn desk_split(m: u32, f: *const Polynomial, r: usize, g: *mut Polynomial, h: *mut Polynomial) -> Refused;
-    fn desk_quick(m: u32, f: *const Polynomial, r: usize, answer: *mut [usize; 2]) -> Refused;
-    fn desk_chain(m: u32, f: *const Polynomial, area: *mut u32, count: usize, numbers: *mut [usize; 3]) -> Refused;
-    fn desk_part(area: *const u32, count: usize, i: usize, place: *mut [usize; 2]);
-}
+use desk::{desk_chain, desk_part, desk_quick, desk_split, TERMS, WORDS};
 
 fn print(name: &str, f: &[u32]) {
     let n = f.iter().rposition(|&c| c != 0).unwrap_or(0);

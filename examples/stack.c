@@ -15,6 +15,8 @@
 
 #define ROOM (1 << 18)
 #define PAINT 0xA5
+#define DIGITS(figure) DIGITS_OF(figure) /* as text */
+#define DIGITS_OF(figure) #figure
 
 static unsigned char stack[ROOM] __attribute__((aligned(16)));
 static ucontext_t caller, callee;
@@ -102,7 +104,7 @@ static void type(const char *more) {
 
 static size_t most_of_texts(uint32_t modulus) {
     static const char *const before[] = {"(", "-(", "x*(", "1-x*("};
-    static const char *const inside[] = {"x", "-x^2", "2*x^126", "3^2-x*x+1", "x^127", "x+", "(", ""};
+    static const char *const inside[] = {"x", "-x^2", "2*x^" DIGITS(DESK_LIMIT), "3^2-x*x+1", "x^1" DIGITS(DESK_LIMIT), "x+", "(", ""};
     static const char *const after[] = {")", ")^2", ")*x", ")^1*x^0-1"};
     size_t most = 0;
     m = modulus;

@@ -1,16 +1,13 @@
 //! The number of complete chains and the last of them, beside plain Rust by the same search; and the splits that it makes.
 
-use crate::desk::{desk_count_chains, desk_nth_chain};
+use crate::binomial::binomials;
+use crate::desk::{desk_count_chains, desk_nth_chain, Polynomial, LIMIT, TERMS, WORDS};
 use crate::listing::planted;
-use crate::plain::{
-    binomials, check, degree, invert, modulus, split_by, Below, Modulus, Polynomial, Words, TERMS,
-};
+use crate::modulus::{invert, modulus, Below, Modulus, Words};
+use crate::plain::{check, degree, split_by};
 use crate::split::monic;
 use crate::timing::{at, beside, Random};
 use std::hint::black_box;
-
-const PARTS: usize = 6;
-const WORDS: usize = PARTS * TERMS;
 
 /// Fewer calls in a run than in other rows have: the longest search takes 121 splits.
 const CALLS: usize = 5;
@@ -156,9 +153,7 @@ fn desk_nth(m: u32, f: &Polynomial, j: usize, area: &mut [u32]) -> Option<[usize
 
 fn sum(area: &[u32], numbers: [usize; 2]) -> u64 {
     let words = area.iter().map(|&w| w as u64);
-    words
-        .chain(numbers.map(|x| x as u64))
-        .fold(0, |a, x| a.wrapping_mul(31).wrapping_add(x))
+    words.chain(numbers.map(|x| x as u64)).fold(0, |a, x| a.wrapping_mul(31).wrapping_add(x))
 }
 
 /// Compares every chain of f, and the j after the last, then times the number and the last chain.
@@ -213,10 +208,7 @@ fn others(random: &mut Random, m: u32, degrees: &[usize], n: usize, table: &[u64
 /// Prints how many splits the search makes. Of all polynomials of degree n, x^n makes the most (bounds.py).
 fn splits(m: u32, degrees: &[usize], table: &[u64]) {
     println!();
-    println!(
-        "{:<52}{:>12}{:>12}",
-        "splits of one search", "count", "last chain"
-    );
+    println!("{:<52}{:>12}{:>12}", "splits of one search", "count", "last chain");
     for &n in degrees {
         let f = power(n);
         let counting = || Counting(Splitting(Below(m as u64), table), 0);
@@ -231,9 +223,9 @@ fn splits(m: u32, degrees: &[usize], table: &[u64]) {
 pub fn run() {
     let (m, table) = (2147483647, binomials());
     let mut random = Random(5);
-    powers(m, &[120, 126, 96, 64, 60], &table);
+    powers(m, &[120, LIMIT, 96, 64, 60], &table);
     others(&mut random, m, &[2, 3, 3, 7], 120, &table);
     powers(0, &[105, 81, 125], &table);
     others(&mut random, 0, &[3, 5, 7], 105, &table);
-    splits(m, &[120, 126, 96, 64, 60], &table);
+    splits(m, &[120, LIMIT, 96, 64, 60], &table);
 }

@@ -1,9 +1,7 @@
 use crate::compose::sum;
-use crate::desk::desk_change_polynomial;
-use crate::plain::{
-    accepted, degree, invert, modulus, multiply, two_products, Below, Modulus, Polynomial, Words,
-    TERMS,
-};
+use crate::desk::{desk_change_polynomial, Polynomial, LIMIT, TERMS};
+use crate::modulus::{invert, modulus, multiply, two_products, Below, Modulus, Words};
+use crate::plain::{accepted, degree};
 use crate::split::monic;
 use crate::timing::{at, beside, Random};
 use std::hint::black_box;
@@ -37,7 +35,7 @@ fn changed(m: u32, f: &Polynomial, a: u32, b: u32) -> Option<Polynomial> {
 }
 
 fn rows(random: &mut Random, m: u32) {
-    for n in [30usize, 60, 126] {
+    for n in [30, 60, LIMIT] {
         let f = monic(random, m, n);
         let mut word = || (random.next() % modulus(m)) as u32;
         let (a, b) = (word(), word());

@@ -1,5 +1,6 @@
-use crate::desk::desk_compose;
-use crate::plain::{accepted, degree, step, Below, Modulus, Polynomial, Words, TERMS};
+use crate::desk::{desk_compose, Polynomial, LIMIT, TERMS};
+use crate::modulus::{Below, Modulus, Words};
+use crate::plain::{accepted, degree, step};
 use crate::split::monic;
 use crate::timing::{at, beside, Random};
 use std::hint::black_box;
@@ -25,12 +26,11 @@ fn composed(m: u32, g: &Polynomial, h: &Polynomial) -> Option<Polynomial> {
 }
 
 pub fn sum(f: &Polynomial) -> u64 {
-    f.iter()
-        .fold(0, |a, &c| a.wrapping_mul(31).wrapping_add(c as u64))
+    f.iter().fold(0, |a, &c| a.wrapping_mul(31).wrapping_add(c as u64))
 }
 
 fn rows(random: &mut Random, m: u32) {
-    for (r, s) in [(2, 63), (9, 14), (63, 2)] {
+    for (r, s) in [(2, LIMIT / 2), (9, 14), (LIMIT / 2, 2)] {
         let (g, h) = (monic(random, m, r), monic(random, m, s));
         beside(
             &format!("compose, degrees {r} and {s}{}", at(m)),

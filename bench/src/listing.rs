@@ -1,10 +1,10 @@
 //! Records per second of the proved program `list` and of a plain Rust listing by the same method, then of `sheets` and `list`:
 //! all as programs that read a file and write another one.
 
-use crate::plain::{
-    accepted, binomials, check, degree, invert, modulus, split_by, Below, Modulus, Polynomial,
-    Words, TERMS,
-};
+use crate::binomial::binomials;
+use crate::desk::{Polynomial, BYTES, LIMIT, TERMS};
+use crate::modulus::{invert, modulus, Below, Modulus, Words};
+use crate::plain::{accepted, check, degree, split_by};
 use crate::timing::{head, row, Random};
 use std::fs::{self, File};
 use std::io::{Read, Write};
@@ -12,7 +12,6 @@ use std::path::Path;
 use std::process::{Command, Stdio};
 use std::time::Instant;
 
-const BYTES: usize = 512;
 const RUNS: usize = 6;
 
 /// The degrees of the chain's parts, left to right, and the tries. There is none if n and the modulus share a factor.
@@ -32,14 +31,7 @@ fn chain<M: Modulus>(m: M, f: &Polynomial, n: usize, table: &[u64]) -> Option<(V
     Some((vec![n], tries))
 }
 
-fn accepted_line(
-    m: u32,
-    f: &Polynomial,
-    n: usize,
-    number: usize,
-    table: &[u64],
-    out: &mut Vec<u8>,
-) {
+fn accepted_line(m: u32, f: &Polynomial, n: usize, number: usize, table: &[u64], out: &mut Vec<u8>) {
     let chain = match m {
         0 => chain(Words, f, n, table),
         _ => chain(Below(m as u64), f, n, table),
@@ -78,7 +70,7 @@ pub fn plain() {
     let table = binomials();
     let mut input = std::io::stdin().lock();
     let mut output = std::io::stdout().lock();
-    let (mut number, mut block) = (0, vec![0u8; 125 * BYTES]);
+    let (mut number, mut block) = (0, vec![0u8; 64_000 / BYTES * BYTES]);
     loop {
         let mut filled = 0;
         while filled < block.len() {
@@ -99,10 +91,7 @@ pub fn plain() {
 }
 
 fn record(m: u32, f: &Polynomial) -> Vec<u8> {
-    std::iter::once(&m)
-        .chain(f)
-        .flat_map(|w| w.to_le_bytes())
-        .collect()
+    std::iter::once(&m).chain(f).flat_map(|w| w.to_le_bytes()).collect()
 }
 
 fn monic(random: &mut Random, m: u32, n: usize, constant: bool) -> Polynomial {
@@ -133,98 +122,72 @@ fn compose(m: u32, g: &Polynomial, h: &Polynomial) -> Polynomial {
 
 /// A chain of these degrees, left to right.
 pub fn planted(random: &mut Random, m: u32, degrees: &[usize]) -> Polynomial {
-    degrees[1..]
-        .iter()
-        .fold(monic(random, m, degrees[0], true), |f, &d| {
-            let h = monic(random, m, d, false);
-            compose(m, &f, &h)
-        })
+    degrees[1..].iter().fold(monic(random, m, degrees[0], true), |f, &d| {
+        let h = monic(random, m, d, false);
+        compose(m, &f, &h)
+    })
 }
 
-const CHAINS: [&[usize]; 6] = [
-    &[2, 3, 3, 7],
-    &[2, 2, 2, 2, 2, 2],
-    &[3, 5, 7],
-    &[11, 11],
-    &[2, 61],
-    &[5, 5, 5],
-];
+const CHAINS: [&[usize]; 6] = [&[2, 3, 3, 7], &[2, 2, 2, 2, 2, 2], &[3, 5, 7], &[11, 11], &[2, 61], &[5, 5, 5]];
 
 /// For 2^32, where only an odd degree gets a chain.
-const ODD_CHAINS: [&[usize]; 6] = [
-    &[3, 3, 3, 3],
-    &[3, 3, 13],
-    &[3, 5, 7],
-    &[11, 11],
-    &[3, 41],
-    &[5, 5, 5],
-];
+const ODD_CHAINS: [&[usize]; 6] = [&[3, 3, 3, 3], &[3, 3, 13], &[3, 5, 7], &[11, 11], &[3, 41], &[5, 5, 5]];
 
 fn indecomposable(random: &mut Random, m: u32, n: usize) -> Vec<u8> {
-    (0..2000)
-        .flat_map(|_| record(m, &monic(random, m, n, true)))
-        .collect()
+    (0..2000).flat_map(|_| record(m, &monic(random, m, n, true))).collect()
 }
 
 fn planted_chains(random: &mut Random, m: u32, chains: &[&[usize]]) -> Vec<u8> {
-    (0..4000)
-        .flat_map(|i| record(m, &planted(random, m, chains[i % chains.len()])))
-        .collect()
+    (0..4000).flat_map(|i| record(m, &planted(random, m, chains[i % chains.len()]))).collect()
 }
 
 /// The files that are listed: what is in each, its bytes, and how many records that is.
-pub fn files() -> Vec<(&'static str, Vec<u8>, usize)> {
+pub fn files() -> Vec<(String, Vec<u8>, usize)> {
     let (m, random) = (2147483647, &mut Random(4));
     let mut all = Vec::new();
-    for (label, n) in [
-        ("indecomposable, degree 126", 126),
-        ("indecomposable, degree 120", 120),
-        ("indecomposable, degree 64", 64),
-    ] {
+    for n in [LIMIT, 120, 64] {
+        let label = format!("indecomposable, degree {n}");
         all.push((label, indecomposable(random, m, n), 2000));
     }
-    all.push(("planted chains", planted_chains(random, m, &CHAINS), 4000));
+    all.push(("planted chains".to_string(), planted_chains(random, m, &CHAINS), 4000));
     let refused = (0..200000)
         .flat_map(|i| {
-            let mut f = monic(random, m, 126, true);
+            let mut f = monic(random, m, LIMIT, true);
             match i % 3 {
-                0 => f[(i * 7) % 127] = m,
-                1 => f[126] = 2,
+                0 => f[(i * 7) % TERMS] = m,
+                1 => f[LIMIT] = 2,
                 _ => (),
             }
             record(if i % 3 == 2 { 1 } else { m }, &f)
         })
         .collect();
-    all.push(("refused by 1, 2 and 4", refused, 200000));
+    all.push(("refused by 1, 2 and 4".to_string(), refused, 200000));
     let mixed = (0..6000)
         .flat_map(|i| match i % 3 {
-            0 => record(m, &monic(random, m, 2 + i % 125, true)),
+            0 => record(m, &monic(random, m, 2 + i % (LIMIT - 1), true)),
             1 => record(1009, &planted(random, 1009, CHAINS[i % 6])),
             _ => record(1, &[0; TERMS]),
         })
         .collect();
-    all.push(("mixed", mixed, 6000));
-    for (label, n) in [
-        ("indecomposable, degree 125, m = 2^32", 125),
-        ("indecomposable, degree 105, m = 2^32", 105),
-        ("indecomposable, degree 63, m = 2^32", 63),
-    ] {
+    all.push(("mixed".to_string(), mixed, 6000));
+    for n in [125, 105, 63] {
+        let label = format!("indecomposable, degree {n}, m = 2^32");
         all.push((label, indecomposable(random, 0, n), 2000));
     }
     let chains = planted_chains(random, 0, &ODD_CHAINS);
-    all.push(("planted chains, m = 2^32", chains, 4000));
+    all.push(("planted chains, m = 2^32".to_string(), chains, 4000));
     let refused = (0..200000)
         .flat_map(|i| match i % 3 {
             0 => record(0, &[0; TERMS]),
             1 => {
-                let mut f = monic(random, 0, 126, true);
-                f[126] = 2;
+                let mut f = monic(random, 0, LIMIT, true);
+                f[LIMIT] = 2;
                 record(0, &f)
             }
-            _ => record(0, &monic(random, 0, 126, true)),
+            _ => record(0, &monic(random, 0, LIMIT, true)),
         })
         .collect();
-    all.push(("refused by 3, 4 and 5, m = 2^32", refused, 200000));
+    all.push(("refused by 3, 4 and 5, m = 2^32".to_string(), refused, 200000));
     all
 }
 
@@ -257,21 +220,13 @@ fn compare(label: &str, programs: &mut [Command], file: &Path) {
     let listing = written(first, file);
     assert!(!listing.is_empty());
     for program in others {
-        assert!(
-            written(program, file) == listing,
-            "{label}: the listings of {first:?} and {program:?} differ"
-        );
+        assert!(written(program, file) == listing, "{label}: the listings of {first:?} and {program:?} differ");
     }
 }
 
 /// Prints the records per second of the programs on each file and their ratios, the best of some passes over all files; where
 /// they must write the same, that is compared first. The records per second, with what is in the file.
-pub fn beside(
-    passes: usize,
-    heads: &[&str],
-    programs: &mut [Command],
-    same: bool,
-) -> Vec<(String, Vec<f64>)> {
+pub fn beside(passes: usize, heads: &[&str], programs: &mut [Command], same: bool) -> Vec<(String, Vec<f64>)> {
     let folder = Path::new("target/bench-records");
     fs::create_dir_all(folder).unwrap();
     let (file, files) = (folder.join("records"), files());

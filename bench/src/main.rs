@@ -4,11 +4,14 @@
 // The loops are the desk's own, by index.
 #![allow(clippy::needless_range_loop, clippy::manual_is_multiple_of)]
 
+mod binomial;
 mod chains;
 mod change;
 mod compose;
+#[path = "../../rust/desk.rs"]
 mod desk;
 mod listing;
+mod modulus;
 mod plain;
 mod quick;
 mod residue;

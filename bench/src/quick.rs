@@ -1,7 +1,8 @@
 //! The quick answer, yes or no at one r with the highest power that differs, beside plain Rust by the same method.
 
 use crate::desk::desk_quick;
-use crate::plain::{degree, modulus, quick};
+use crate::modulus::modulus;
+use crate::plain::{degree, quick};
 use crate::split::{inputs, Input};
 use crate::timing::beside;
 use std::hint::black_box;
@@ -32,12 +33,9 @@ fn compare(input: &Input) {
 }
 
 fn row(label: &str, input: &Input) {
-    beside(
-        label,
-        20,
-        &mut |_| sum(input.quick(desk_quick)),
-        &mut |_| sum(quick(input.m, black_box(&input.f), input.r).unwrap()),
-    );
+    beside(label, 20, &mut |_| sum(input.quick(desk_quick)), &mut |_| {
+        sum(quick(input.m, black_box(&input.f), input.r).unwrap())
+    });
 }
 
 /// Where there is no pair, the root tells it, early; a no at x^1 comes as late as can be, and takes the time of a yes.

@@ -2,10 +2,12 @@
 //! that have no pair. The columns and sums are the desk's; where plain Rust has `%` there, the desk multiplies by a reciprocal of
 //! the modulus.
 
-use crate::plain::{multiply, strided_product, Modulus, Polynomial, ROWS, TERMS};
+use crate::binomial::ROWS;
+use crate::desk::{Polynomial, TERMS};
+use crate::modulus::{multiply, strided_product, Modulus};
 
 /// Room for the rows of any degrees: min(r, s + 1) rows of s + 2 places.
-const WORDS: usize = 160;
+const WORDS: usize = 2 * TERMS;
 
 /// T_i[k], counted from the top, is the coefficient of x^(is-k) in t^i, where h = x^s + t; row i stands from (i - 1)(s + 2) on.
 /// The first row goes on for two places past h.
@@ -38,14 +40,7 @@ impl Root {
 
     /// Works out the places 1 to s + 1 of the root of f, of degree n = r * s, by the inverse u of r and row r of the binomials.
     /// Whether a pair is still open: if f = g(h), place s + 1 is 0.
-    pub fn find<M: Modulus>(
-        &mut self,
-        f: &Polynomial,
-        [n, r, s]: [usize; 3],
-        u: u32,
-        row: &[u64],
-        m: M,
-    ) -> bool {
+    pub fn find<M: Modulus>(&mut self, f: &Polynomial, [n, r, s]: [usize; 3], u: u32, row: &[u64], m: M) -> bool {
         let w = s + 2;
         let b = binomials(row, r.min(s + 1), u, m);
         for k in 1..w {

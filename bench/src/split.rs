@@ -1,5 +1,6 @@
-use crate::desk::{desk_compose, desk_split, Quick, Split};
-use crate::plain::{degree, modulus, split, Polynomial, TERMS};
+use crate::desk::{desk_compose, desk_split, Polynomial, Quick, Split, LIMIT, TERMS};
+use crate::modulus::modulus;
+use crate::plain::{degree, split};
 use crate::timing::{at, beside, Random};
 use std::hint::black_box;
 
@@ -67,10 +68,7 @@ fn planted(random: &mut Random, m: u32, r: usize, s: usize) -> Input {
 }
 
 fn sum(g: &Polynomial, h: &Polynomial) -> u64 {
-    g.iter().zip(h).fold(0, |a, (x, y)| {
-        a.wrapping_mul(31)
-            .wrapping_add(*x as u64 ^ (*y as u64) << 32)
-    })
+    g.iter().zip(h).fold(0, |a, (x, y)| a.wrapping_mul(31).wrapping_add(*x as u64 ^ (*y as u64) << 32))
 }
 
 /// Polynomials of degree n for each of the left degrees: one that has no pair, and for each one that has.
@@ -87,11 +85,11 @@ pub fn inputs() -> Vec<Input> {
     let mut random = Random(2);
     let mut all = Vec::new();
     let fitting = |n: usize| (2..=n / 2).filter(move |r| n % r == 0);
-    for n in [60, 120, 126] {
+    for n in [60, 120, LIMIT] {
         let left: Vec<usize> = fitting(n).collect();
         all.extend(of_degree(&mut random, 2147483647, n, &left));
     }
-    for n in [60, 105, 120, 125, 126] {
+    for n in [60, 105, 120, 125, LIMIT] {
         let odd: Vec<usize> = fitting(n).filter(|r| r % 2 == 1).collect();
         all.extend(of_degree(&mut random, 0, n, &odd));
     }
@@ -100,14 +98,13 @@ pub fn inputs() -> Vec<Input> {
 
 pub fn run() {
     for input in inputs() {
-        beside(
-            &input.label("split"),
-            20,
-            &mut |_| input.split(desk_split),
-            &mut |_| match split(input.m, black_box(&input.f), input.r) {
-                Some((g, h)) => sum(&g, &h),
-                None => 0,
-            },
-        );
+        beside(&input.label("split"), 20, &mut |_| input.split(desk_split), &mut |_| match split(
+            input.m,
+            black_box(&input.f),
+            input.r,
+        ) {
+            Some((g, h)) => sum(&g, &h),
+            None => 0,
+        });
     }
 }

@@ -1,13 +1,11 @@
 //! Texts read and written, beside plain Rust by the same method; and the texts that take longest to read.
 
-use crate::desk::{desk_read_text, desk_write_text};
-use crate::plain::{modulus, Polynomial, TERMS};
+use crate::desk::{desk_read_text, desk_write_text, Polynomial, LIMIT, TERMS, TEXT_BYTES};
+use crate::modulus::modulus;
 use crate::split::monic;
 use crate::timing::{at, beside, by_turns, head, row, Random};
 use crate::typed::{build, read, write};
 use std::hint::black_box;
-
-const BYTES: usize = 8192;
 
 const MOST: u32 = 2147483647;
 
@@ -45,12 +43,9 @@ fn witness(answer: Result<Polynomial, u32>) -> u64 {
 /// The text of a row, and that both sides answer it alike.
 fn compared(label: &str, m: u32, text: &str) -> String {
     let text = answered(m, text);
-    assert!(text.len() <= BYTES);
+    assert!(text.len() <= TEXT_BYTES);
     let answer = desk_read(m, text.as_bytes());
-    assert!(
-        answer.is_ok() && answer == read(m, text.as_bytes()),
-        "{label}"
-    );
+    assert!(answer.is_ok() && answer == read(m, text.as_bytes()), "{label}");
     text
 }
 
@@ -67,16 +62,16 @@ fn reads(label: &str, calls: usize, m: u32, text: &str) {
 /// The same of a text that takes milliseconds, by fewer turns.
 fn reads_long(label: &str, turns: usize, m: u32, text: &str) {
     let text = compared(label, m, text);
-    let sides: &mut [&mut dyn FnMut(usize) -> u64] = &mut [
-        &mut |_| witness(desk_read(m, black_box(text.as_bytes()))),
-        &mut |_| witness(read(m, black_box(text.as_bytes()))),
-    ];
+    let sides: &mut [&mut dyn FnMut(usize) -> u64] =
+        &mut [&mut |_| witness(desk_read(m, black_box(text.as_bytes()))), &mut |_| {
+            witness(read(m, black_box(text.as_bytes())))
+        }];
     let times = by_turns(label, turns, 1, sides);
     row(label, &[times[0] / 1e6, times[1] / 1e6], 1);
 }
 
 fn writes(label: &str, m: u32, f: &Polynomial) {
-    let (mut area, mut other) = ([7; BYTES], [7; BYTES]);
+    let (mut area, mut other) = ([7; TEXT_BYTES], [7; TEXT_BYTES]);
     let length = desk_write(m, f, &mut area);
     assert!(length.is_some() && length == write(m, f, &mut other) && area == other);
     assert!(desk_read(m, &area[..length.unwrap()]) == Ok(*f));
@@ -106,7 +101,7 @@ fn named(text: &str) -> String {
     }
 }
 
-/// c*x^126 and so on down to c*x^1 and c, with ten digits each.
+/// c*x^n from the limit on and so on down to c*x^1 and c, with ten digits each.
 fn terms(random: &mut Random) -> String {
     let mut number = || 1_000_000_000 + random.next() % 9_000_000_000;
     let term = |i: usize| format!("{}*x^{i}", number());
@@ -116,8 +111,13 @@ fn terms(random: &mut Random) -> String {
 
 /// The text as often as there is room for it and for the term that `answered` may put before it, with * between.
 fn joined(text: &str) -> String {
-    let room = BYTES - "4294967296*x^126+".len();
+    let room = TEXT_BYTES - format!("4294967296*x^{LIMIT}+").len();
     vec![text; (room + 1) / (text.len() + 1)].join("*")
+}
+
+/// With the limit for L and its half for H.
+fn with_figures(text: &str) -> String {
+    text.replace('L', &LIMIT.to_string()).replace('H', &(LIMIT / 2).to_string())
 }
 
 /// A sum in brackets to a power, that in brackets to the same power, and so on.
@@ -129,49 +129,49 @@ fn readers(random: &mut Random, m: u32) {
     for text in TYPED {
         reads(&named(text), 100, m, text);
     }
-    reads("127 terms", 20, m, &terms(random));
+    reads(&format!("{TERMS} terms"), 20, m, &terms(random));
     reads("x+x+.., 4,000 terms", 1, m, &["x"; 4000].join("+"));
     let brackets = "((((((((x+1)+x)*x)-1)+x)*x)-1)+x)";
     reads("eight brackets", 20, m, brackets);
-    for text in ["((((x+1)^2+x)^3+x)^3+x)^7", "(x+1)^126", "(x^2+x+1)^63"] {
-        reads(text, 5, m, text);
+    for text in ["((((x+1)^2+x)^3+x)^3+x)^7", "(x+1)^L", "(x^2+x+1)^H"].map(with_figures) {
+        reads(&text, 5, m, &text);
     }
-    reads("1^126*1^126*.., 1,362 factors", 1, m, &joined("1^126"));
+    let one = with_figures("1^L");
+    reads(&format!("{one}*{one}*.., 1,362 factors"), 1, m, &joined(&one));
 }
 
 /// A sum 1 + c·D with c^2 = 0 modulo m, the modulus, the power, and how deep: (1 + c·D)^k = 1 + k·c·D does not go above the limit.
 const LONG: [(&str, u32, usize, usize); 7] = [
-    ("2*x^126+1", 2 * 2, 126, 1),
-    ("2*x^126+1", 2 * 2, 125, 8),
-    ("97*x^126+1", 97 * 97, 126, 8),
-    ("46337*(x^2+x+1)^63+1", 46337 * 46337, 125, 7),
-    ("7^6*(x+1)^126+1", 7u32.pow(11), 125, 7),
-    ("65536*x^126+1", 0, 125, 8),
-    ("65536*(x+1)^126+1", 0, 125, 7),
+    ("2*x^L+1", 2 * 2, LIMIT, 1),
+    ("2*x^L+1", 2 * 2, LIMIT - 1, 8),
+    ("97*x^L+1", 97 * 97, LIMIT, 8),
+    ("46337*(x^2+x+1)^H+1", 46337 * 46337, LIMIT - 1, 7),
+    ("7^6*(x+1)^L+1", 7u32.pow(11), LIMIT - 1, 7),
+    ("65536*x^L+1", 0, LIMIT - 1, 8),
+    ("65536*(x+1)^L+1", 0, LIMIT - 1, 7),
 ];
 
 fn longest() {
     println!();
-    head(
-        "ms to read a text, the least of many",
-        &["desk", "plain Rust"],
-    );
+    head("ms to read a text, the least of many", &["desk", "plain Rust"]);
     for (sum, m, power, deep) in LONG {
+        let sum = with_figures(sum);
         let label = format!("{sum}, ^{power} {deep} deep, m = {}", modulus(m));
-        reads_long(&label, 40, m, &nested(sum, power, deep));
+        reads_long(&label, 40, m, &nested(&sum, power, deep));
     }
     for (sum, m, power, deep) in [LONG[2], LONG[4]] {
-        let text = joined(&nested(sum, power, deep));
+        let sum = with_figures(sum);
+        let text = joined(&nested(&sum, power, deep));
         let label = format!("{sum}, such texts joined, {} bytes", text.len());
         reads_long(&label, 3, m, &text);
     }
 }
 
 fn writers(random: &mut Random, m: u32) {
-    writes("127 terms", m, &monic(random, m, TERMS - 1));
+    writes(&format!("{TERMS} terms"), m, &monic(random, m, LIMIT));
     let mut f = [0; TERMS];
-    f[TERMS - 1] = 1;
-    writes("x^126", m, &f);
+    f[LIMIT] = 1;
+    writes(&format!("x^{LIMIT}"), m, &f);
     writes("(x^2+x)^2-3*x", m, &read(m, b"(x^2+x)^2-3*x").unwrap());
 }
 

@@ -40,12 +40,7 @@ fn run(calls: usize, f: &mut dyn FnMut(usize) -> u64) -> f64 {
 /// Compares the answers of all sides on all inputs, then takes their times.
 ///
 /// The least of many short runs, the sides by turns, so that other work on the machine counts little and for all alike.
-pub fn by_turns(
-    label: &str,
-    runs: usize,
-    calls: usize,
-    sides: &mut [&mut dyn FnMut(usize) -> u64],
-) -> Vec<f64> {
+pub fn by_turns(label: &str, runs: usize, calls: usize, sides: &mut [&mut dyn FnMut(usize) -> u64]) -> Vec<f64> {
     for i in 0..calls {
         let answer = sides[0](i);
         for side in &mut sides[1..] {
@@ -62,12 +57,7 @@ pub fn by_turns(
 }
 
 /// Prints both times and their ratio.
-pub fn beside(
-    label: &str,
-    calls: usize,
-    desk: &mut dyn FnMut(usize) -> u64,
-    plain: &mut dyn FnMut(usize) -> u64,
-) {
+pub fn beside(label: &str, calls: usize, desk: &mut dyn FnMut(usize) -> u64, plain: &mut dyn FnMut(usize) -> u64) {
     row(label, &by_turns(label, RUNS, calls, &mut [desk, plain]), 1);
 }
 

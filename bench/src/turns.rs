@@ -1,9 +1,8 @@
 //! The desk beside other checkouts of it, by turns: their shared libraries in one process, and their programs `list`.
 
 use crate::compose::sum;
-use crate::desk::{LeftPart, Quick, Split};
+use crate::desk::{LeftPart, Quick, Split, TERMS};
 use crate::listing;
-use crate::plain::TERMS;
 use crate::quick;
 use crate::split::{inputs, Input};
 use crate::timing::{by_turns, head, row, CALLS};
@@ -73,28 +72,15 @@ impl Desk {
 type Row = (String, Vec<f64>);
 
 /// The times of one operation for an input.
-fn times(
-    desks: &[&Desk],
-    operation: &str,
-    input: &Input,
-    call: fn(&Desk, &Input) -> u64,
-) -> Vec<f64> {
+fn times(desks: &[&Desk], operation: &str, input: &Input, call: fn(&Desk, &Input) -> u64) -> Vec<f64> {
     let mut calls: Vec<_> = desks.iter().map(|desk| |_| call(desk, input)).collect();
-    let mut sides: Vec<_> = calls
-        .iter_mut()
-        .map(|call| call as &mut dyn FnMut(usize) -> u64)
-        .collect();
+    let mut sides: Vec<_> = calls.iter_mut().map(|call| call as &mut dyn FnMut(usize) -> u64).collect();
     by_turns(&input.label(operation), RUNS, 20, &mut sides)
 }
 
 /// Prints the times of one operation for each input: the least of some passes over all of them, since the machine may be slow
 /// for longer than a row takes.
-fn rows(
-    desks: &[&Desk],
-    operation: &str,
-    inputs: &[Input],
-    call: fn(&Desk, &Input) -> u64,
-) -> Vec<Row> {
+fn rows(desks: &[&Desk], operation: &str, inputs: &[Input], call: fn(&Desk, &Input) -> u64) -> Vec<Row> {
     let mut least = vec![vec![f64::MAX; desks.len()]; inputs.len()];
     for _ in 0..PASSES {
         for (input, least) in inputs.iter().zip(&mut least) {
@@ -114,11 +100,7 @@ fn rows(
 
 /// The quick answers of those that have them, in a table of their own.
 fn quick_rows(desks: &[&Desk], pair: &[Input], none: &[Input]) {
-    let asked: Vec<_> = desks
-        .iter()
-        .filter(|d| d.quick.is_some())
-        .copied()
-        .collect();
+    let asked: Vec<_> = desks.iter().filter(|d| d.quick.is_some()).copied().collect();
     if asked.len() < 2 {
         return;
     }
@@ -134,18 +116,14 @@ fn names<'a>(desks: &[&'a Desk]) -> Vec<&'a str> {
 
 /// The row with the highest ratio of the first side to another one.
 fn highest(rows: &[Row], side: usize) -> (&str, f64) {
-    let ratios = rows
-        .iter()
-        .map(|(label, x)| (label.as_str(), x[0] / x[side]));
+    let ratios = rows.iter().map(|(label, x)| (label.as_str(), x[0] / x[side]));
     ratios.max_by(|a, b| a.1.total_cmp(&b.1)).unwrap()
 }
 
 /// Prints the worst row of each group: of calls that with the longest time, of listings that with the fewest records per second.
 fn worst(names: &[&str], calls: &[&[Row]], listings: &[Row]) {
-    let slow: Vec<Row> = listings
-        .iter()
-        .map(|(label, rates)| (label.clone(), rates.iter().map(|rate| 1.0 / rate).collect()))
-        .collect();
+    let slow: Vec<Row> =
+        listings.iter().map(|(label, rates)| (label.clone(), rates.iter().map(|rate| 1.0 / rate).collect())).collect();
     for (side, name) in names.iter().enumerate().skip(1) {
         println!();
         println!("the worst of each, {} over {name}", names[0]);
@@ -160,10 +138,7 @@ fn worst(names: &[&str], calls: &[&[Row]], listings: &[Row]) {
 /// Times the libraries and programs `list` of some checkouts, each given by its name and the two files, the newest first; ends
 /// with the worst row of each group beside each of the others.
 pub fn run(sides: &[&str]) {
-    let desks: Vec<_> = sides
-        .chunks(3)
-        .map(|side| Desk::load(side[0], side[1]))
-        .collect();
+    let desks: Vec<_> = sides.chunks(3).map(|side| Desk::load(side[0], side[1])).collect();
     let desks: Vec<_> = desks.iter().collect();
     let mut lists: Vec<_> = sides.chunks(3).map(|side| Command::new(side[2])).collect();
     let names = names(&desks);
@@ -174,9 +149,5 @@ pub fn run(sides: &[&str]) {
     let left_parts = rows(&desks, "left part", &pair, Desk::left_part);
     quick_rows(&desks, &pair, &none);
     let listings = listing::beside(PASSES, &names, &mut lists, true);
-    worst(
-        &names,
-        &[&splits, &splits_with_pair, &left_parts],
-        &listings,
-    );
+    worst(&names, &[&splits, &splits_with_pair, &left_parts], &listings);
 }

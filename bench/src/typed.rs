@@ -1,12 +1,10 @@
 //! Typed text in plain Rust, by the desk's method: a reader of sums, products, factors and bases that call each other, and the
 //! writer. A refusal of the reader is its number.
 
-use crate::plain::{
-    accepted, degree, power, two_products, Below, Modulus, Polynomial, Words, TERMS,
-};
+use crate::desk::{Polynomial, LIMIT, TERMS, TEXT_BYTES, TEXT_MOST};
+use crate::modulus::{power, two_products, Below, Modulus, Words};
+use crate::plain::{accepted, degree};
 
-const LIMIT: usize = TERMS - 1;
-const BYTES: usize = 8192;
 const DIGITS: usize = 10;
 const DEPTH: usize = 8;
 
@@ -29,11 +27,7 @@ impl Built {
     fn single<M: Modulus>(c: u64, k: usize, m: M) -> Built {
         let mut coefficients = [0; TERMS];
         coefficients[k] = m.residue(c);
-        Built {
-            over: false,
-            degree: if coefficients[k] == 0 { 0 } else { k },
-            coefficients,
-        }
+        Built { over: false, degree: if coefficients[k] == 0 { 0 } else { k }, coefficients }
     }
 
     /// Adds k·b, up to the larger degree.
@@ -141,11 +135,7 @@ impl<M: Modulus> Reader<'_, M> {
             self.depth += 1;
             let v = self.sum()?;
             self.depth -= 1;
-            return if self.takes(b')') {
-                Ok(v)
-            } else {
-                Err(SPELLING)
-            };
+            return if self.takes(b')') { Ok(v) } else { Err(SPELLING) };
         }
         if self.takes(b'x') {
             return Ok(Built::single(1, 1, self.m));
@@ -207,7 +197,7 @@ pub fn build(m: u32, text: &[u8]) -> Result<Built, u32> {
     if m == 1 || 2147483647 < m {
         return Err(MODULUS);
     }
-    if text.is_empty() || BYTES < text.len() {
+    if text.is_empty() || TEXT_BYTES < text.len() {
         return Err(SPELLING);
     }
     match m {
@@ -230,9 +220,6 @@ pub fn read(m: u32, text: &[u8]) -> Result<Polynomial, u32> {
     }
 }
 
-/// The most bytes of a text that is written: each of its terms has two numbers and four bytes more.
-const TEXT: usize = (2 * DIGITS + 4) * TERMS;
-
 /// n's decimal digits from `at` on; the place after them.
 fn digits(n: u32, out: &mut [u8], at: usize) -> usize {
     let k = if n < 10 { at } else { digits(n / 10, out, at) };
@@ -245,7 +232,7 @@ pub fn write(m: u32, f: &Polynomial, area: &mut [u8]) -> Option<usize> {
     if !accepted(m, f) {
         return None;
     }
-    let mut text = [0; TEXT];
+    let mut text = [0; TEXT_MOST];
     let mut at = 0;
     for i in (0..=degree(f)).rev().filter(|&i| f[i] != 0) {
         if at != 0 {

@@ -1,5 +1,4 @@
-//! Changes of unit and origin by this program's own method: f(ax + b) is
-//! expanded with binomials.
+//! Changes of unit and origin by this program's own method: f(ax + b) is expanded with binomials.
 
 use crate::decomposition::Pair;
 use crate::modulus::Modulus;
@@ -89,16 +88,15 @@ fn handed_left(h: &Polynomial, [a, b]: Change, m: Modulus) -> Change {
     [power(a, s, m), value(h, b, m)]
 }
 
-/// h' as above, and g' = a^(-n)·g(a^s·x + h(b)), which is g changed as a
-/// polynomial by what h hands over: a^(-n) is (a^s)^(-r).
+/// h' as above, and g' = a^(-n)·g(a^s·x + h(b)), which is g changed as a polynomial by what h hands over: a^(-n) is
+/// (a^s)^(-r).
 pub fn of_pair(g: &Polynomial, h: &Polynomial, change: Change, m: Modulus) -> Pair {
     let left = of_polynomial(g, handed_left(h, change, m), m);
     (left, of_right(h, change, m))
 }
 
-/// A chain's parts, left to right, with a change carried along them: "work
-/// from the right: each part but the leftmost is treated as h is and hands the
-/// change (a^s, h(b)) to its left neighbour; the leftmost is changed as a
+/// A chain's parts, left to right, with a change carried along them: "work from the right: each part but the leftmost
+/// is treated as h is and hands the change (a^s, h(b)) to its left neighbour; the leftmost is changed as a
 /// polynomial".
 pub fn along(parts: &[Polynomial], mut change: Change, m: Modulus) -> Vec<Polynomial> {
     let Some((leftmost, others)) = parts.split_first() else {

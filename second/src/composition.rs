@@ -1,13 +1,12 @@
-//! Composition by this program's own method. (`Polynomial::compose`, with
-//! which inputs are planted, goes by Horner; here neither Horner's scheme nor a
-//! table of powers is used.)
+//! Composition by this program's own method. (`Polynomial::compose`, with which inputs are planted, goes by Horner;
+//! here neither Horner's scheme nor a table of powers is used.)
 
 use crate::modulus::Modulus;
 use crate::polynomial::Polynomial;
 use crate::residue::add;
 use crate::series::{power, product};
 
-/// g(h(x)), where the product of the degrees is 126 at most.
+/// g(h(x)), where the product of the degrees is within the limit.
 pub fn composed(g: &Polynomial, h: &Polynomial, m: Modulus) -> Polynomial {
     Polynomial::of(&by_halves(g.used(), h.used(), m))
 }
@@ -28,9 +27,8 @@ fn by_halves(g: &[u32], h: &[u32], m: Modulus) -> Vec<u32> {
     whole
 }
 
-/// The parts of a chain composed, left to right, where the product of all the
-/// degrees is 126 at most. Composing is associative: the left half of the parts
-/// is composed, and the right half, and then the two.
+/// The parts of a chain composed, left to right, where the product of all the degrees is within the limit. Composing
+/// is associative: the left half of the parts is composed, and the right half, and then the two.
 pub fn chain_composed(parts: &[Polynomial], m: Modulus) -> Polynomial {
     match parts {
         [] => panic!("a chain has a part"),

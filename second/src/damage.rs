@@ -1,29 +1,28 @@
-//! Damage to good input, one kind for each line of the table, and several at
-//! once, so that the order of the tests matters.
+//! Damage to good input, one kind for each line of the table, and several at once, so that the order of the tests
+//! matters.
 
 use crate::asked::Asked;
 use crate::change::Change;
+use crate::desk::LIMIT;
 use crate::inputs::{self, LOOK_SMALL};
 use crate::modulus::{Modulus, TOP_WORD, WHOLE_WORDS};
-use crate::polynomial::{Polynomial, TOP_DEGREE};
+use crate::polynomial::Polynomial;
 use crate::random::Random;
 use crate::refused::{Refused, FIRST};
 use crate::residue::multiply;
 
-/// How often the first inputs go through all lines and all pairs of lines:
-/// chance may spoil a combination, hardly eight times.
+/// How often the first inputs go through all lines and all pairs of lines: chance may spoil a combination, hardly
+/// eight times.
 const ROUNDS: usize = 8;
 
-/// The lines that input number `index` is to make due: first, every line alone
-/// and with every other, then any number of them; half the time none.
+/// The lines that input number `index` is to make due: first, every line alone and with every other, then any number
+/// of them; half the time none.
 ///
-/// What is wanted need not come true: a polynomial that is all zero has no
-/// leading coefficient to spoil.
+/// What is wanted need not come true: a polynomial that is all zero has no leading coefficient to spoil.
 pub fn wanted(lines: &[Refused], index: u64, random: &mut Random) -> Vec<Refused> {
-    let combinations = alone_and_in_pairs(lines);
-    let place = index as usize;
-    if place < ROUNDS * combinations.len() {
-        return combinations[place % combinations.len()].clone();
+    let combinations = lines.len() * (lines.len() + 1) / 2;
+    if (index as usize) < ROUNDS * combinations {
+        return alone_or_in_pair(lines, index as usize % combinations);
     }
     match random.below(16) {
         0..=8 => Vec::new(),
@@ -32,13 +31,17 @@ pub fn wanted(lines: &[Refused], index: u64, random: &mut Random) -> Vec<Refused
     }
 }
 
-fn alone_and_in_pairs(lines: &[Refused]) -> Vec<Vec<Refused>> {
-    let mut combinations = Vec::new();
-    for (i, &line) in lines.iter().enumerate() {
-        combinations.push(vec![line]);
-        combinations.extend(lines[..i].iter().map(|&earlier| vec![earlier, line]));
+/// Each line alone and then with each one before it.
+fn alone_or_in_pair(lines: &[Refused], mut number: usize) -> Vec<Refused> {
+    let mut last = 0;
+    while number > last {
+        number -= last + 1;
+        last += 1;
     }
-    combinations
+    match number.checked_sub(1) {
+        None => vec![lines[last]],
+        Some(earlier) => vec![lines[earlier], lines[last]],
+    }
 }
 
 pub fn one_of(lines: &[Refused], random: &mut Random) -> Vec<Refused> {
@@ -49,11 +52,7 @@ pub fn one_of(lines: &[Refused], random: &mut Random) -> Vec<Refused> {
 pub fn several(lines: &[Refused], random: &mut Random) -> Vec<Refused> {
     let at_least = lines.len().min(2);
     loop {
-        let chosen: Vec<_> = lines
-            .iter()
-            .filter(|_| random.once_in(2))
-            .copied()
-            .collect();
+        let chosen: Vec<_> = lines.iter().filter(|_| random.once_in(2)).copied().collect();
         if chosen.len() >= at_least {
             return chosen;
         }
@@ -63,13 +62,9 @@ pub fn several(lines: &[Refused], random: &mut Random) -> Vec<Refused> {
 /// How often an input is made anew when what it was to make due is not due.
 pub const TRIES: usize = 200;
 
-/// An input on which all of the lines are due, if one is met. One line or two are
-/// tried for again and again; more of them need not come true.
-pub fn with_due<I>(
-    lines: &[Refused],
-    due: impl Fn(&I) -> Vec<Refused>,
-    mut make: impl FnMut() -> I,
-) -> I {
+/// An input on which all of the lines are due, if one is met. One line or two are tried for again and again; more of
+/// them need not come true.
+pub fn with_due<I>(lines: &[Refused], due: impl Fn(&I) -> Vec<Refused>, mut make: impl FnMut() -> I) -> I {
     let mut input = make();
     if !(1..=2).contains(&lines.len()) {
         return input;
@@ -86,8 +81,8 @@ pub fn with_due<I>(
 
 /// Makes those of the lines due that are about m and the polynomials.
 ///
-/// The coefficients that offend are set after the modulus they offend against,
-/// the leading coefficient after the degree is settled.
+/// The coefficients that offend are set after the modulus they offend against, the leading coefficient after the
+/// degree is settled.
 pub fn spoil(asked: &mut Asked, lines: &[Refused], random: &mut Random) {
     for (which, f) in (FIRST..).zip(&mut asked.polynomials) {
         if lines.contains(&Refused::about(3, which)) {
@@ -151,24 +146,22 @@ fn offending_power(n: usize, random: &mut Random) -> usize {
     match random.below(8) {
         0 => 0,
         1 => 1,
-        2 => TOP_DEGREE,
+        2 => LIMIT,
         3 => n,
         4 => random.between(0, n),
-        5 | 6 => random.between((n + 1).min(TOP_DEGREE), TOP_DEGREE),
-        _ => random.between(0, TOP_DEGREE),
+        5 | 6 => random.between((n + 1).min(LIMIT), LIMIT),
+        _ => random.between(0, LIMIT),
     }
 }
 
-/// m or more. No word is 2^32 or more: the largest stands there, and is to be
-/// taken.
+/// m or more. No word is 2^32 or more: the largest stands there, and is to be taken.
 fn offending_value(m: Modulus, random: &mut Random) -> u32 {
     let least = u32::try_from(m.number()).unwrap_or(u32::MAX);
     let any = random.below(u64::from(u32::MAX - least) + 1) as u32;
     random.pick(&[least, least.saturating_add(1), u32::MAX, least + any])
 }
 
-/// For No. 8: a or b too large, or a without an inverse; a is 0 where no other
-/// is known.
+/// For No. 8: a or b too large, or a without an inverse; a is 0 where no other is known.
 pub fn spoiled_change(m: Modulus, random: &mut Random) -> Change {
     let [a, b] = inputs::change(random, m);
     // No word is too large at 2^32.

@@ -1,6 +1,5 @@
-//! Every complete chain (request No. 5) by this program's own method: not a
-//! search that goes on wherever f splits, but all the degrees that the parts of
-//! a chain could have, each list of them tried, and what is found is sorted.
+//! Every complete chain (request No. 5) by this program's own method: not a search that goes on wherever f splits,
+//! but all the degrees that the parts of a chain could have, each list of them tried, and what is found is sorted.
 
 use crate::decomposition::{part_degrees, Pair};
 use crate::polynomial::Polynomial;
@@ -17,9 +16,8 @@ pub fn from_the_right(parts: &[Polynomial]) -> FromTheRight {
     degrees.rev().collect()
 }
 
-/// Every list of numbers, 2 or more each, with the product n. No f of degree n
-/// has more chains than there are lists: at each right degree there is at most
-/// one normal pair.
+/// Every list of numbers, 2 or more each, with the product n. No f of degree n has more chains than there are lists:
+/// at each right degree there is at most one normal pair.
 pub fn factorisations(n: usize) -> Vec<FromTheRight> {
     if n == 1 {
         return vec![Vec::new()];
@@ -32,19 +30,13 @@ pub fn factorisations(n: usize) -> Vec<FromTheRight> {
     last.flat_map(ending_in).collect()
 }
 
-/// Every normal complete chain of f, in the order of request No. 5: "by their
-/// degrees read from the right, smaller degree first at the first difference".
-/// `pair` gives the normal pair at r if there is one.
-pub fn every_chain(
-    f: &Polynomial,
-    pair: impl Fn(&Polynomial, usize) -> Option<Pair>,
-) -> Vec<Parts> {
+/// Every normal complete chain of f, in the order of request No. 5: "by their degrees read from the right, smaller
+/// degree first at the first difference". `pair` gives the normal pair at r if there is one.
+pub fn every_chain(f: &Polynomial, pair: impl Fn(&Polynomial, usize) -> Option<Pair>) -> Vec<Parts> {
     let n = f.degree().expect("f is taken");
     let mut trials = Trials::of(f, pair);
-    let mut found: Vec<(FromTheRight, Parts)> = factorisations(n)
-        .into_iter()
-        .filter_map(|degrees| Some((degrees.clone(), trials.chain(&degrees)?)))
-        .collect();
+    let mut found: Vec<(FromTheRight, Parts)> =
+        factorisations(n).into_iter().filter_map(|degrees| Some((degrees.clone(), trials.chain(&degrees)?))).collect();
     found.sort_by(|(one, _), (other, _)| one.cmp(other));
     found.into_iter().map(|(_, parts)| parts).collect()
 }
@@ -57,9 +49,8 @@ struct Begun {
     off: Vec<Polynomial>,
 }
 
-/// What is known of f by the degrees of the parts taken off: nothing where f
-/// has no such right end, or where a part of it splits. Many lists of degrees
-/// begin alike.
+/// What is known of f by the degrees of the parts taken off: nothing where f has no such right end, or where a part
+/// of it splits. Many lists of degrees begin alike.
 struct Trials<P> {
     pair: P,
     begun: HashMap<FromTheRight, Option<Begun>>,
@@ -67,14 +58,8 @@ struct Trials<P> {
 
 impl<P: Fn(&Polynomial, usize) -> Option<Pair>> Trials<P> {
     fn of(f: &Polynomial, pair: P) -> Trials<P> {
-        let whole = Begun {
-            rest: f.clone(),
-            off: Vec::new(),
-        };
-        Trials {
-            pair,
-            begun: HashMap::from([(Vec::new(), Some(whole))]),
-        }
+        let whole = Begun { rest: f.clone(), off: Vec::new() };
+        Trials { pair, begun: HashMap::from([(Vec::new(), Some(whole))]) }
     }
 
     /// The chain of these degrees, if there is one.

@@ -1,91 +1,55 @@
-//! Memory lent to the desk: filled with garbage before the call, so that
-//! "writes nothing" is noticed, and fenced on both sides, so that a word
-//! written outside it is noticed too.
+//! Memory lent to the desk: filled with garbage before the call, so that "writes nothing" is noticed, and fenced on
+//! both sides, so that a word written outside it is noticed too.
 
 use crate::random::Random;
-use std::ptr;
 
-/// Words on either side. 8 words keep whatever is lent at its own alignment
-/// without gaps between fence and field.
+/// Items on either side: whatever is lent keeps its alignment, without gaps between fence and field.
 const FENCE: usize = 8;
 
-#[repr(C)]
-struct Fenced<T> {
-    before: [u32; FENCE],
-    field: T,
-    after: [u32; FENCE],
-}
-
-/// One field lent to the desk to write.
-pub struct Lent<T> {
-    // On the heap and reached by pointer only: the desk's pointer is made from
-    // the whole, so that the compiler may not take the fences for unchanged.
-    whole: Box<Fenced<T>>,
-    fence: [u32; FENCE],
-}
-
-/// A word that is no likely answer; in particular it is not zero, which is what
-/// a refusal has to write.
+/// A word that is no likely answer; in particular it is not zero, which is what a refusal has to write.
 pub fn garbage(random: &mut Random) -> u32 {
     random.word() | 1
 }
 
-impl<T> Lent<T> {
-    pub fn new(field: T, random: &mut Random) -> Lent<T> {
-        let fence = [garbage(random); FENCE];
-        Lent {
-            whole: Box::new(Fenced {
-                before: fence,
-                field,
-                after: fence,
-            }),
-            fence,
-        }
-    }
-
-    pub fn pointer(&mut self) -> *mut T {
-        let whole: *mut Fenced<T> = &mut *self.whole;
-        // SAFETY: `whole` points to a live box; only a place is formed.
-        unsafe { ptr::addr_of_mut!((*whole).field) }
-    }
-
-    /// The field as the desk left it.
-    pub fn give_back(self, name: &str) -> Result<T, String> {
-        if self.whole.before != self.fence || self.whole.after != self.fence {
-            return Err(format!("the desk wrote outside {name}"));
-        }
-        Ok(self.whole.field)
-    }
-}
-
-/// Words or bytes lent to the desk to write, as many as a caller pleases.
-pub struct LentArea<T> {
-    // Fence, items, fence.
+/// Items lent to the desk to write, as many as a caller pleases.
+pub struct Lent<T> {
+    // Fence, items, fence. On the heap and reached by pointer only: the desk's pointer is made from the whole, so
+    // that the compiler may not take the fences for unchanged.
     whole: Box<[T]>,
     fence: Vec<T>,
 }
 
-impl LentArea<u32> {
-    pub fn words(words: &[u32], random: &mut Random) -> LentArea<u32> {
-        LentArea::behind(vec![garbage(random); FENCE], words)
+impl Lent<u32> {
+    pub fn words(words: &[u32], random: &mut Random) -> Lent<u32> {
+        Lent::behind(vec![garbage(random); FENCE], words)
+    }
+
+    pub fn garbage(count: usize, random: &mut Random) -> Lent<u32> {
+        let words: Vec<u32> = (0..count).map(|_| garbage(random)).collect();
+        Lent::words(&words, random)
     }
 }
 
-impl LentArea<u8> {
-    /// The fences are not always of a whole number of words: bytes are not
-    /// always aligned.
-    pub fn bytes(bytes: &[u8], random: &mut Random) -> LentArea<u8> {
+impl Lent<usize> {
+    /// Both halves of a count are garbage: a desk that writes 4 of its 8 bytes is noticed.
+    pub fn counts(count: usize, random: &mut Random) -> Lent<usize> {
+        let mut word = || (garbage(random) as usize) << 32 | garbage(random) as usize;
+        let counts: Vec<usize> = (0..count).map(|_| word()).collect();
+        Lent::behind(vec![word(); FENCE], &counts)
+    }
+}
+
+impl Lent<u8> {
+    /// The fences are not always of a whole number of words: bytes are not always aligned.
+    pub fn bytes(bytes: &[u8], random: &mut Random) -> Lent<u8> {
         let fence = random.between(4 * FENCE - 3, 4 * FENCE);
-        LentArea::behind(random.bytes(fence), bytes)
+        Lent::behind(random.bytes(fence), bytes)
     }
 }
 
-impl<T: Copy + PartialEq> LentArea<T> {
-    fn behind(fence: Vec<T>, items: &[T]) -> LentArea<T> {
-        LentArea {
-            whole: [&fence, items, &fence].concat().into_boxed_slice(),
-            fence,
-        }
+impl<T: Copy + PartialEq> Lent<T> {
+    fn behind(fence: Vec<T>, items: &[T]) -> Lent<T> {
+        Lent { whole: [&fence, items, &fence].concat().into_boxed_slice(), fence }
     }
 
     pub fn count(&self) -> usize {
@@ -108,9 +72,8 @@ impl<T: Copy + PartialEq> LentArea<T> {
     }
 }
 
-/// Bytes or words lent to the desk to read. They stand at the very end of a
-/// heap allocation of exactly their size and a few more in front: a memory
-/// checker notices a read past the end, and a record is not always aligned.
+/// Bytes or words lent to the desk to read. They stand at the very end of a heap allocation of exactly their size and
+/// a few more in front: a memory checker notices a read past the end, and a record is not always aligned.
 pub struct Given<T> {
     whole: Box<[T]>,
     copy: Box<[T]>,
@@ -135,11 +98,7 @@ impl Given<u32> {
 impl<T: Copy + PartialEq> Given<T> {
     fn behind(front: Vec<T>, items: &[T]) -> Given<T> {
         let whole = [&front[..], items].concat().into_boxed_slice();
-        Given {
-            copy: whole.clone(),
-            whole,
-            front: front.len(),
-        }
+        Given { copy: whole.clone(), whole, front: front.len() }
     }
 
     pub fn count(&self) -> usize {
@@ -147,9 +106,8 @@ impl<T: Copy + PartialEq> Given<T> {
     }
 
     pub fn pointer(&mut self) -> *const T {
-        // SAFETY: `front` is at most the length of the allocation. A writing
-        // pointer is taken, so that the compiler may not take the items for
-        // unchanged.
+        // SAFETY: `front` is at most the length of the allocation. A writing pointer is taken, so that the compiler
+        // may not take the items for unchanged.
         unsafe { self.whole.as_mut_ptr().add(self.front) }
     }
 

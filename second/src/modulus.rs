@@ -1,5 +1,5 @@
-//! What a modulus word means. It is asked nowhere else: the others are handed a
-//! `Modulus`, which has no arithmetic of its own to be mistaken for the word's.
+//! What a modulus word means. It is asked nowhere else: the others are handed a `Modulus`, which has no arithmetic of
+//! its own to be mistaken for the word's.
 
 use std::fmt;
 
@@ -7,8 +7,7 @@ use std::fmt;
 #[derive(Clone, Copy, Debug, PartialEq, Eq)]
 pub struct Modulus(u32);
 
-/// "A modulus word of 0 shall mean 2^32" (request No. 3), for those who "work
-/// in whole machine words".
+/// "A modulus word of 0 shall mean 2^32" (request No. 3), for those who "work in whole machine words".
 pub const WHOLE_WORDS: Modulus = Modulus(0);
 
 /// The largest modulus but 2^32.
@@ -19,8 +18,7 @@ impl Modulus {
         Modulus(word)
     }
 
-    /// What a caller writes and what is returned: "0 with no refusal means
-    /// 2^32" (the readings of 02).
+    /// What a caller writes and what is returned: "0 with no refusal means 2^32" (the readings of 02).
     pub const fn word(self) -> u32 {
         self.0
     }
@@ -37,8 +35,7 @@ impl Modulus {
         self.0 != 1 && self.0 <= TOP_WORD
     }
 
-    /// Whether a number is below it, as coefficients and changes have to be; at
-    /// 2^32 every word is.
+    /// Whether a number is below it, as coefficients and changes have to be; at 2^32 every word is.
     pub fn is_above(self, number: u32) -> bool {
         u64::from(number) < self.number()
     }

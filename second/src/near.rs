@@ -1,51 +1,35 @@
-//! A walk through all degrees r and s of a pair and, for each of them, through
-//! all places at which f may be another than g(h).
+//! A walk through all degrees r and s of a pair and, for each of them, through all places at which f may be another
+//! than g(h).
 //!
-//! Divided by a monic h again and again, f is d_0 + d_1·h + d_2·h^2 + .., each
-//! d of a lower degree than h: its digits to the base h. There is one way only
-//! to write it so, and f is some g(h) exactly if every digit is a constant; then
-//! the digits are the coefficients of g. One other coefficient of f most likely
-//! makes several digits others. So that none can go untested, each digit has to
-//! be the only one that is no constant, by each power of x that it can have.
+//! Divided by a monic h again and again, f is d_0 + d_1·h + d_2·h^2 + .., each d of a lower degree than h: its digits
+//! to the base h. There is one way only to write it so, and f is some g(h) exactly if every digit is a constant; then
+//! the digits are the coefficients of g. One other coefficient of f most likely makes several digits others. So that
+//! none can go untested, each digit has to be the only one that is no constant, by each power of x that it can have.
 
-use crate::answer::One;
 use crate::asked::Asked;
+use crate::desk::LIMIT;
 use crate::inputs;
 use crate::list::List;
-use crate::modulus::{Modulus, TOP_WORD, WHOLE_WORDS};
-use crate::operation::left_part::NO_LEFT_PART;
-use crate::polynomial::{Polynomial, TOP_DEGREE};
+use crate::modulus::{Modulus, TOP_WORD};
+use crate::polynomial::Polynomial;
 use crate::random::Random;
 use crate::residue::{add, multiply, shares_factor};
 use crate::series::power;
 
 /// Small ones, powers of 2 and other composites, and large primes.
-pub const MODULI: [Modulus; 12] = [
-    Modulus::of_word(2),
-    Modulus::of_word(3),
-    Modulus::of_word(4),
-    Modulus::of_word(6),
-    Modulus::of_word(8),
-    Modulus::of_word(101),
-    Modulus::of_word(65_536),
-    Modulus::of_word(1_073_741_824),
-    Modulus::of_word(2_147_483_629),
-    Modulus::of_word(TOP_WORD - 1),
-    Modulus::of_word(TOP_WORD),
-    WHOLE_WORDS,
-];
+pub const MODULI: [u32; 12] = [2, 3, 4, 6, 8, 101, 65_536, 1_073_741_824, 2_147_483_629, TOP_WORD - 1, TOP_WORD, 0];
 
 /// The moduli that an operation takes at the left degree r.
 type Moduli = fn(r: usize) -> Vec<Modulus>;
 
 pub fn moduli(_r: usize) -> Vec<Modulus> {
-    MODULI.to_vec()
+    MODULI.map(Modulus::of_word).to_vec()
 }
 
 /// Those of the moduli modulo which r has an inverse.
-pub fn moduli_inverting(r: usize, moduli: &[Modulus]) -> Vec<Modulus> {
-    let shares = |m: &Modulus| shares_factor(r as u64, *m);
-    moduli.iter().copied().filter(|m| !shares(m)).collect()
+pub fn moduli_inverting(r: usize, words: &[u32]) -> Vec<Modulus> {
+    let moduli = words.iter().map(|&word| Modulus::of_word(word));
+    moduli.filter(|&m| !shares_factor(r as u64, m)).collect()
 }
 
 /// What of f is another than in g(h).
@@ -65,9 +49,8 @@ pub struct Near {
     pub other: Other,
     /// The k of what is another; without meaning where nothing is.
     pub place: usize,
-    /// The left part of f for h, or that there is none, where the way in which
-    /// f was made tells it.
-    pub known: Option<One>,
+    /// The left part of f for h, or that there is none, where the way in which f was made tells it.
+    pub known: Option<Option<Polynomial>>,
 }
 
 pub struct Walk {
@@ -91,22 +74,14 @@ impl Walk {
             let moduli = moduli(r).len() as u64;
             let places = (r * s) as u64;
             for &normal in normal {
-                let with = |other| Stretch {
-                    r,
-                    s,
-                    normal,
-                    other,
-                };
+                let with = |other| Stretch { r, s, normal, other };
                 // g(h) at every modulus; the others at every place, with any.
                 stretches.push((with(Other::Nothing), moduli));
                 stretches.push((with(Other::Coefficient), places));
                 stretches.push((with(Other::OfDigit), places));
             }
         }
-        Walk {
-            stretches: List::of(stretches.into_iter()),
-            moduli,
-        }
+        Walk { stretches: List::of(stretches.into_iter()), moduli }
     }
 
     pub fn length(&self) -> u64 {
@@ -125,10 +100,10 @@ impl Walk {
     }
 }
 
-/// All r and s, both at least 2, with a product of 126 at most.
+/// All r and s, both at least 2, with a product within the limit.
 pub fn every_two_degrees() -> impl Iterator<Item = (usize, usize)> {
-    let with = |r| (2..=TOP_DEGREE / r).map(move |s| (r, s));
-    (2..=TOP_DEGREE / 2).flat_map(with)
+    let with = |r| (2..=LIMIT / r).map(move |s| (r, s));
+    (2..=LIMIT / 2).flat_map(with)
 }
 
 impl Stretch {
@@ -141,9 +116,9 @@ impl Stretch {
             false => inputs::not_zero(random, m),
         };
         let more = inputs::not_zero(random, m);
-        let mut f = g.compose(&h, m).expect("r times s is 126 at most");
+        let mut f = g.compose(&h, m).expect("r times s is within the limit");
         let known = match other {
-            Other::Nothing => Some(One::answered(g)),
+            Other::Nothing => Some(Some(g)),
             Other::Coefficient => {
                 f.0[place] = add(f.0[place], more, m);
                 None
@@ -152,20 +127,11 @@ impl Stretch {
                 let (j, i) = (place / s, place % s);
                 add_to_digit(&mut f, more, (j, i), &h, m);
                 g.0[j] = add(g.0[j], more, m);
-                Some(match i {
-                    0 => One::answered(g),
-                    _ => One::refused_with(NO_LEFT_PART),
-                })
+                Some((i == 0).then_some(g))
             }
         };
         let asked = Asked::two(m, f, h);
-        Near {
-            asked,
-            r,
-            other,
-            place,
-            known,
-        }
+        Near { asked, r, other, place, known }
     }
 }
 

@@ -1,38 +1,28 @@
-//! x^n and one more term, whose square vanishes: f = x^n + q·x^i with q^2 = 0
-//! modulo m. Its chains are known by counting alone, and they need not have the
-//! same number of parts.
+//! x^n and one more term, whose square vanishes: f = x^n + q·x^i with q^2 = 0 modulo m. Its chains are known by
+//! counting alone, and they need not have the same number of parts.
 //!
-//! Let a and b have multiples of q for coefficients. Then x^r + a after x^s + b
-//! is x^n + a(x^s) + r·x^(n-s)·b, since all else vanishes. So f splits at s
-//! exactly if s divides i, and the term goes to the left part as x^(i/s), or if i
+//! Let a and b have multiples of q for coefficients. Then x^r + a after x^s + b is x^n + a(x^s) + r·x^(n-s)·b, since
+//! all else vanishes. So f splits at s exactly if s divides i, and the term goes to the left part as x^(i/s), or if i
 //! is above n - s, and it goes to the right part as x^(i-n+s).
 
 use crate::asked::Asked;
 use crate::decomposition::part_degrees;
+use crate::desk::LIMIT;
 use crate::every_chain::{factorisations, FromTheRight};
 use crate::inputs;
 use crate::list::List;
 use crate::modulus::Modulus;
-use crate::polynomial::TOP_DEGREE;
 use crate::random::Random;
 use crate::residue::{multiply, shares_factor};
 use crate::shape::{moved, plain_power};
 use std::iter;
 use std::sync::OnceLock;
 
-/// A modulus word, and a number whose square it divides. For each n one of them
-/// shares no factor with it: 2·3·5·7 is above 126.
+/// A modulus word, and a number whose square it divides. For each n one of them shares no factor with it: 2·3·5·7·11
+/// is above the limit.
+#[rustfmt::skip]
 const MODULI: [(u32, u32); 9] = [
-    (4, 2),
-    (9, 3),
-    (25, 5),
-    (49, 7),
-    (121, 11),
-    (65_536, 256),
-    // 11^8.
-    (214_358_881, 14_641),
-    (0, 65_536),
-    (0, 1 << 31),
+    (4, 2), (9, 3), (25, 5), (49, 7), (121, 11), (65_536, 256), (214_358_881, 14_641), (0, 65_536), (0, 1 << 31),
 ];
 
 /// n, and i where there is another term.
@@ -103,18 +93,15 @@ impl Walk {
 }
 
 fn degrees() -> impl Iterator<Item = usize> {
-    (2..=TOP_DEGREE).filter(|&n| part_degrees(n).next().is_some())
+    (2..=LIMIT).filter(|&n| part_degrees(n).next().is_some())
 }
 
-/// One whose chains have not all the same number of parts; half the time n is
-/// odd, so that m may be 2^32.
+/// One whose chains have not all the same number of parts; half the time n is odd, so that m may be 2^32.
 pub fn of_several_lengths(random: &mut Random) -> Asked {
     static FOUND: OnceLock<[Vec<Near>; 2]> = OnceLock::new();
     let [even, odd] = FOUND.get_or_init(|| {
         let with = |n: usize| (0..n).map(move |i| (n, Some(i)));
-        let found = degrees()
-            .flat_map(with)
-            .filter(|&near| lengths_differ(near));
+        let found = degrees().flat_map(with).filter(|&near| lengths_differ(near));
         let (even, odd) = found.partition(|(n, _)| n.is_multiple_of(2));
         [even, odd]
     });

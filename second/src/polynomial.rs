@@ -1,19 +1,17 @@
-//! A polynomial is 127 coefficients, constant term first.
+//! A polynomial by its coefficients, constant term first.
 
+use crate::desk::{LIMIT, TERMS};
 use crate::modulus::Modulus;
 use crate::refused::Refused;
 use crate::residue::add;
 use crate::series::product;
 use std::fmt;
 
-pub const PLACES: usize = 127;
-pub const TOP_DEGREE: usize = PLACES - 1;
-
 #[derive(Clone, Debug, PartialEq, Eq)]
-pub struct Polynomial(pub [u32; PLACES]);
+pub struct Polynomial(pub [u32; TERMS]);
 
 impl Polynomial {
-    pub const ZERO: Polynomial = Polynomial([0; PLACES]);
+    pub const ZERO: Polynomial = Polynomial([0; TERMS]);
 
     /// The polynomial written as 01 writes the worked ones: [96,3,9,1,6,0,1].
     pub fn of(coefficients: &[u32]) -> Polynomial {
@@ -22,15 +20,13 @@ impl Polynomial {
         f
     }
 
-    /// "The degree n is the largest i whose coefficient is not zero"; all zero
-    /// has none.
+    /// "The degree n is the largest i whose coefficient is not zero"; all zero has none.
     pub fn degree(&self) -> Option<usize> {
-        (0..PLACES).rev().find(|&i| self.0[i] != 0)
+        (0..TERMS).rev().find(|&i| self.0[i] != 0)
     }
 
-    /// Every line of the refusal table among 2, 3 and 4 that is true of this
-    /// polynomial, in 01's order. The first one is the refusal given; the rest
-    /// show that an input also tests the order.
+    /// Every line of the refusal table among 2, 3 and 4 that is true of this polynomial, in 01's order. The first one
+    /// is the refusal given; the rest show that an input also tests the order.
     pub fn refusals_due(&self, m: Modulus, which: u32) -> Vec<Refused> {
         let mut due = Vec::new();
         if let Some(power) = self.0.iter().position(|&c| !m.is_above(c)) {
@@ -46,11 +42,11 @@ impl Polynomial {
         due
     }
 
-    /// self(inner(x)) modulo m by Horner, or nothing when the product of the
-    /// degrees is above 126. Both have a degree and are reduced modulo m.
+    /// self(inner(x)) modulo m by Horner, or nothing when the product of the degrees is above the limit. Both have a
+    /// degree and are reduced modulo m.
     pub fn compose(&self, inner: &Polynomial, m: Modulus) -> Option<Polynomial> {
         let (r, s) = (self.degree()?, inner.degree()?);
-        if r * s > TOP_DEGREE {
+        if r * s > LIMIT {
             return None;
         }
         let mut sum = Polynomial::ZERO;
@@ -61,7 +57,7 @@ impl Polynomial {
         Some(sum)
     }
 
-    /// The product modulo m; its degree has to be 126 at most.
+    /// The product modulo m; its degree has to be within the limit.
     fn times(&self, other: &Polynomial, m: Modulus) -> Polynomial {
         let (Some(n), Some(k)) = (self.degree(), other.degree()) else {
             return Polynomial::ZERO;
@@ -79,7 +75,7 @@ impl fmt::Display for Polynomial {
     /// Up to the highest coefficient that is not zero, so nothing is hidden.
     fn fmt(&self, out: &mut fmt::Formatter) -> fmt::Result {
         match self.used() {
-            [] => write!(out, "all 127 coefficients zero"),
+            [] => write!(out, "all coefficients zero"),
             used => write!(out, "{used:?}"),
         }
     }

@@ -1,27 +1,17 @@
-//! x^n and the Chebyshev polynomials of all degrees n from 2 to 126, at several
-//! moduli. They split at every divisor of n, so that their chains are known
-//! without any splitting: the prime factors of n in all their orders.
+//! x^n and the Chebyshev polynomials of all degrees n up to the limit, at several moduli. They split at every divisor
+//! of n, so that their chains are known without any splitting: the prime factors of n in all their orders.
 
 use crate::asked::Asked;
+use crate::desk::LIMIT;
 use crate::every_chain::FromTheRight;
 use crate::list::List;
-use crate::modulus::{Modulus, TOP_WORD, WHOLE_WORDS};
-use crate::polynomial::TOP_DEGREE;
+use crate::modulus::{Modulus, TOP_WORD};
+use crate::near::moduli_inverting;
 use crate::random::Random;
-use crate::residue::shares_factor;
 use crate::shape::{plain_power, Shape};
 
 /// Primes, powers of primes, and 2^32 for an odd n.
-const MODULI: [Modulus; 8] = [
-    Modulus::of_word(101),
-    Modulus::of_word(1_009),
-    Modulus::of_word(1_000_003),
-    Modulus::of_word(TOP_WORD),
-    Modulus::of_word(25),
-    Modulus::of_word(49),
-    Modulus::of_word(121),
-    WHOLE_WORDS,
-];
+const MODULI: [u32; 8] = [101, 1_009, 1_000_003, TOP_WORD, 25, 49, 121, 0];
 
 #[derive(Clone, Copy)]
 pub enum Form {
@@ -38,7 +28,7 @@ impl Walk {
         let mut blocks = Vec::new();
         for form in [Form::Power, Form::Chebyshev] {
             let of = |n| ((form, n), moduli(n).len() as u64);
-            blocks.extend((2..=TOP_DEGREE).map(of));
+            blocks.extend((2..=LIMIT).map(of));
         }
         Walk(List::of(blocks.into_iter()))
     }
@@ -57,12 +47,10 @@ impl Walk {
 
 /// Those that share no factor with n.
 fn moduli(n: usize) -> Vec<Modulus> {
-    let fits = |m: &Modulus| !shares_factor(n as u64, *m);
-    MODULI.into_iter().filter(fits).collect()
+    moduli_inverting(n, &MODULI)
 }
 
-/// The prime factors of n in all orders, each once, in the order of request
-/// No. 5.
+/// The prime factors of n in all orders, each once, in the order of request No. 5.
 fn orders_of_primes(n: usize) -> Vec<FromTheRight> {
     let mut order = primes(n);
     let mut orders = vec![order.clone()];
@@ -73,7 +61,7 @@ fn orders_of_primes(n: usize) -> Vec<FromTheRight> {
 }
 
 /// From the smallest up.
-fn primes(mut n: usize) -> Vec<usize> {
+pub fn primes(mut n: usize) -> Vec<usize> {
     let mut primes = Vec::new();
     while n > 1 {
         let least = (2..=n).find(|d| n.is_multiple_of(*d)).expect("n itself");
@@ -83,9 +71,8 @@ fn primes(mut n: usize) -> Vec<usize> {
     primes
 }
 
-/// To the order that comes next, if there is one: the last number with a larger
-/// one after it changes places with the last of these, and what comes after its
-/// place is turned round.
+/// To the order that comes next, if there is one: the last number with a larger one after it changes places with the
+/// last of these, and what comes after its place is turned round.
 fn to_next_order(order: &mut [usize]) -> bool {
     let Some(place) = order.windows(2).rposition(|two| two[0] < two[1]) else {
         return false;

@@ -1,9 +1,7 @@
-//! A seeded random generator (splitmix64, written out), so that every run can
-//! be repeated.
+//! A seeded random generator (splitmix64, written out), so that every run can be repeated.
 //!
-//! Each input has a generator of its own, begun from the seed, the operation
-//! and the index. So input 1234 is the same input however many are asked for
-//! and whatever the other operations do.
+//! Each input has a generator of its own, begun from the seed, the operation and the index. So input 1234 is the same
+//! input however many are asked for and whatever the other operations do.
 
 pub struct Random {
     state: u64,
@@ -12,8 +10,7 @@ pub struct Random {
 /// splitmix64's step: 2^64 divided by the golden ratio, made odd.
 const STEP: u64 = 0x9E37_79B9_7F4A_7C15;
 
-/// splitmix64's last stage: every bit of the input reaches every bit of the
-/// result.
+/// splitmix64's last stage: every bit of the input reaches every bit of the result.
 fn mix(state: u64) -> u64 {
     let mut z = state;
     z = (z ^ (z >> 30)).wrapping_mul(0xBF58_476D_1CE4_E5B9);
@@ -27,9 +24,7 @@ impl Random {
         for letter in operation.bytes() {
             state = mix(state ^ u64::from(letter)).wrapping_add(STEP);
         }
-        Random {
-            state: mix(state ^ mix(index.wrapping_add(STEP))),
-        }
+        Random { state: mix(state ^ mix(index.wrapping_add(STEP))) }
     }
 
     fn next(&mut self) -> u64 {

@@ -1,5 +1,5 @@
-//! Polynomials as lists of coefficients, constant term first, cut off after so
-//! many of them: products, powers, inverses and roots.
+//! Polynomials as lists of coefficients, constant term first, cut off after so many of them: products, powers,
+//! inverses and roots.
 
 use crate::modulus::Modulus;
 use crate::residue::{inverse as inverse_of, multiply, reduced, subtract};
@@ -9,8 +9,8 @@ pub fn product(a: &[u32], b: &[u32], keep: usize, m: Modulus) -> Vec<u32> {
     (0..keep).map(|k| column(a, b, k, m)).collect()
 }
 
-/// Coefficient k of the product: the sum of a_i·b_(k-i), in 128 bits, where
-/// 127 products of two words have room, and reduced once at the end.
+/// Coefficient k of the product: the sum of a_i·b_(k-i), in 128 bits, where many products of two words have room, and
+/// reduced once at the end.
 fn column(a: &[u32], b: &[u32], k: usize, m: Modulus) -> u32 {
     let first = (k + 1).saturating_sub(b.len());
     let end = a.len().min(k + 1);
@@ -32,8 +32,8 @@ pub fn power(base: &[u32], exponent: usize, keep: usize, m: Modulus) -> Vec<u32>
     product(&square, base, keep, m)
 }
 
-/// 1/p to `keep` coefficients, where p begins with 1. Coefficient by
-/// coefficient, from p·(1/p) = 1: what is divided by is always 1.
+/// 1/p to `keep` coefficients, where p begins with 1. Coefficient by coefficient, from p·(1/p) = 1: what is divided
+/// by is always 1.
 fn inverse(p: &[u32], keep: usize, m: Modulus) -> Vec<u32> {
     let mut found = vec![1];
     for k in 1..keep {
@@ -42,12 +42,11 @@ fn inverse(p: &[u32], keep: usize, m: Modulus) -> Vec<u32> {
     found
 }
 
-/// The r-th root of p to `keep` coefficients, the one that begins with 1; p
-/// begins with 1 too, and r has an inverse modulo m.
+/// The r-th root of p to `keep` coefficients, the one that begins with 1; p begins with 1 too, and r has an inverse
+/// modulo m.
 ///
-/// Newton's iteration for y^r - p = 0: from y with k right coefficients comes
-/// y - (y^r - p)/(r·y^(r-1)) with 2k. Only r and series that begin with 1 are
-/// divided by, so m need not be prime and may be smaller than r.
+/// Newton's iteration for y^r - p = 0: from y with k right coefficients comes y - (y^r - p)/(r·y^(r-1)) with 2k. Only
+/// r and series that begin with 1 are divided by, so m need not be prime and may be smaller than r.
 pub fn root(p: &[u32], r: usize, keep: usize, m: Modulus) -> Vec<u32> {
     let one_rth = inverse_of(reduced(r as u128, m), m).expect("r has an inverse");
     let mut found = vec![1];

@@ -1,14 +1,14 @@
-//! Polynomials of many shapes for the operations that take f apart: planted
-//! compositions, those that commute, those that split in two orders, those that
-//! split nowhere. The degree is known before the modulus is chosen, since the
+//! Polynomials of many shapes for the operations that take f apart: planted compositions, those that commute, those
+//! that split in two orders, those that split nowhere. The degree is known before the modulus is chosen, since the
 //! two may not share a factor where f is to be split.
 
 pub mod several;
 
 use crate::change;
+use crate::desk::{LIMIT, PARTS};
 use crate::inputs;
 use crate::modulus::Modulus;
-use crate::polynomial::{Polynomial, TOP_DEGREE};
+use crate::polynomial::Polynomial;
 use crate::random::Random;
 use crate::residue::{add, multiply, reduced, subtract};
 use crate::series::power;
@@ -42,7 +42,7 @@ impl Shape {
             3 => Shape::Chebyshev(composite_degree(random)),
             4 => two_orders(random),
             // It splits at half its degree only.
-            5..=6 => Shape::Planted(vec![2, random.between(3, TOP_DEGREE / 2)]),
+            5..=6 => Shape::Planted(vec![2, random.between(3, LIMIT / 2)]),
             7..=9 => pair(random),
             10..=15 => chain(random),
             _ => odd(random),
@@ -85,13 +85,13 @@ const PRIME_DEGREES: [usize; 8] = [2, 3, 5, 7, 11, 61, 89, 113];
 /// Degrees with many divisors are more likely than others.
 fn composite_degree(random: &mut Random) -> usize {
     let r = random.between(2, 11);
-    r * random.between(2, TOP_DEGREE / r)
+    r * random.between(2, LIMIT / r)
 }
 
 fn two_orders(random: &mut Random) -> Shape {
     let d = random.between(2, 6);
-    let p_degree = random.between(1, TOP_DEGREE / (d * d));
-    let k = random.between(0, TOP_DEGREE / d - d * p_degree);
+    let p_degree = random.between(1, LIMIT / (d * d));
+    let k = random.between(0, LIMIT / d - d * p_degree);
     Shape::TwoOrders { d, k, p_degree }
 }
 
@@ -100,15 +100,15 @@ fn pair(random: &mut Random) -> Shape {
     Shape::Planted(vec![r, s])
 }
 
-/// 2 to 6 parts.
+/// 2 parts or more.
 fn chain(random: &mut Random) -> Shape {
-    let count = random.between(2, 6);
+    let count = random.between(2, PARTS);
     Shape::Planted(chain_degrees(count, random))
 }
 
 /// Of an odd degree, which few others have: at 2^32 there is no other chain.
 fn odd(random: &mut Random) -> Shape {
-    let count = random.between(2, 4);
+    let count = random.between(2, LIMIT.ilog(3) as usize);
     let mut degrees = odd_degrees(count, random);
     // With the highest rightmost a round begins again below the last s.
     if random.once_in(2) {
@@ -120,19 +120,17 @@ fn odd(random: &mut Random) -> Shape {
         0 => Shape::Any(n),
         1 => Shape::Power(n),
         2 => Shape::Chebyshev(n),
-        3 => iter::repeat_with(|| two_orders(random))
-            .find(is_odd)
-            .expect("some of them are odd"),
+        3 => iter::repeat_with(|| two_orders(random)).find(is_odd).expect("some of them are odd"),
         _ => Shape::Planted(degrees),
     }
 }
 
-/// The degrees of 1 to 6 parts, with a product of 126 at most.
+/// The degrees of so many parts, with a product within the limit.
 pub fn chain_degrees(count: usize, random: &mut Random) -> Vec<usize> {
     degrees_from(2, 1, count, random)
 }
 
-/// The same, all of them odd, for 1 to 4 parts.
+/// The same, all of them odd.
 fn odd_degrees(count: usize, random: &mut Random) -> Vec<usize> {
     degrees_from(3, 2, count, random)
 }
@@ -143,7 +141,7 @@ fn degrees_from(least: usize, step: usize, count: usize, random: &mut Random) ->
     for _ in 0..random.between(0, count) {
         let place = random.between(0, count - 1);
         let others = degrees.iter().product::<usize>() / degrees[place];
-        let room = TOP_DEGREE / others;
+        let room = LIMIT / others;
         // Small degrees leave room for further ones.
         let top = random.pick(&[3, 5, room]).min(room);
         degrees[place] = least + step * random.between(0, (top - least) / step);
@@ -158,9 +156,7 @@ fn planted(degrees: &[usize], m: Modulus, random: &mut Random) -> Polynomial {
 
 fn each_after_the_next(mut parts: impl Iterator<Item = Polynomial>, m: Modulus) -> Polynomial {
     let leftmost = parts.next().expect("at least one part is planted");
-    parts.fold(leftmost, |left, right| {
-        left.compose(&right, m).expect("126 at most is planted")
-    })
+    parts.fold(leftmost, |left, right| left.compose(&right, m).expect("what is planted is within the limit"))
 }
 
 /// x^n.
@@ -178,10 +174,9 @@ pub fn moved(f: Polynomial, m: Modulus, random: &mut Random) -> Polynomial {
     change::of_polynomial(&f, inputs::change(random, m), m)
 }
 
-/// The Chebyshev polynomial of degree n with its unit changed so that it is
-/// monic modulo every m: D_0 = 2, D_1 = x, D_k = x·D_(k-1) - e·D_(k-2).
-/// 2^(1-n)·T_n is the one with e = 1/4. They split at every divisor of n
-/// (000, section 2).
+/// The Chebyshev polynomial of degree n with its unit changed so that it is monic modulo every m: D_0 = 2, D_1 = x,
+/// D_k = x·D_(k-1) - e·D_(k-2). 2^(1-n)·T_n is the one with e = 1/4. They split at every divisor of n (000, section
+/// 2).
 fn chebyshev(n: usize, e: u32, m: Modulus) -> Polynomial {
     let mut last = Polynomial::of(&[reduced(2, m)]);
     let mut next = plain_power(1);
@@ -196,8 +191,8 @@ fn chebyshev(n: usize, e: u32, m: Modulus) -> Polynomial {
     next
 }
 
-/// x^d after x^k·p(x^d), which is also x^k·p(x)^d after x^d (Ritt): it splits
-/// at two left degrees, and neither way is a step of the other.
+/// x^d after x^k·p(x^d), which is also x^k·p(x)^d after x^d (Ritt): it splits at two left degrees, and neither way is
+/// a step of the other.
 fn in_two_orders(d: usize, k: usize, p: &Polynomial, m: Modulus) -> Polynomial {
     let mut inner = Polynomial::ZERO;
     for (i, &c) in p.used().iter().enumerate() {
@@ -207,8 +202,8 @@ fn in_two_orders(d: usize, k: usize, p: &Polynomial, m: Modulus) -> Polynomial {
     Polynomial::of(&power(inner.used(), d, places, m))
 }
 
-/// One coefficient below the leading one is another: what was planted is most
-/// likely no composition any more, and often by its last coefficients only.
+/// One coefficient below the leading one is another: what was planted is most likely no composition any more, and
+/// often by its last coefficients only.
 pub fn nearly(mut f: Polynomial, m: Modulus, random: &mut Random) -> Polynomial {
     let n = f.degree().expect("what is planted has a degree");
     let power = match random.below(3) {

@@ -1,37 +1,31 @@
-//! Chain sheets by request No. 2: "six records, left to right; places not used
-//! are 512 zero bytes".
+//! Chain sheets by request No. 2: records, left to right, as many as a chain has parts at most; places not used are
+//! zero bytes.
 
 pub mod damage;
 pub mod inputs;
 pub mod kinds;
 
-use crate::answer::{SHEET_BYTES, TOP_PARTS};
 use crate::composition::chain_composed;
+use crate::desk::{BYTES, LIMIT, PARTS, SHEET, TERMS};
 use crate::modulus::{Modulus, WHOLE_WORDS};
-use crate::operation::chain::filled;
-use crate::polynomial::{Polynomial, PLACES, TOP_DEGREE};
-use crate::record::{Record, RECORD_BYTES};
+use crate::operation::filled;
+use crate::polynomial::Polynomial;
+use crate::record::Record;
 use crate::refused::Refused;
-use std::fmt;
 
-/// A lent sheet or area is too short.
-pub const SHORT: Refused = Refused::plain(11);
-/// "The used places are not the first ones, none is used, or the moduli
-/// differ."
+/// "The used places are not the first ones, none is used, or the moduli differ."
 pub const MISPLACED: Refused = Refused::plain(12);
-/// "The composed degree is above 126."
+/// The composed degree is above the limit.
 pub const TOO_HIGH: Refused = Refused::plain(10);
 
-/// The six places of a chain as a sheet or an area shows them, right or wrong;
-/// nothing where a place is not used.
-pub struct Places(pub [Option<Record>; TOP_PARTS]);
+/// The places of a chain as a sheet or an area shows them, right or wrong; nothing where a place is not used.
+pub struct Places(pub [Option<Record>; PARTS]);
 
 impl Places {
-    /// In a sheet a place is used if any of its 512 bytes is not zero. Bytes
-    /// that are missing are taken for zeros.
+    /// In a sheet a place is used if any of its bytes is not zero. Bytes that are missing are taken for zeros.
     pub fn of_sheet(sheet: &[u8]) -> Places {
         let mut places = Places(Default::default());
-        let records = sheet.chunks(RECORD_BYTES);
+        let records = sheet.chunks(BYTES);
         for (place, bytes) in places.0.iter_mut().zip(records) {
             let used = bytes.iter().any(|&byte| byte != 0);
             *place = used.then(|| Record::read_padded(bytes));
@@ -39,11 +33,10 @@ impl Places {
         places
     }
 
-    /// In an area a place is used if any of its 127 words is not zero. Words
-    /// that are missing are taken for zeros.
+    /// In an area a place is used if any of its words is not zero. Words that are missing are taken for zeros.
     pub fn of_area(modulus: Modulus, area: &[u32]) -> Places {
         let mut places = Places(Default::default());
-        for (place, words) in places.0.iter_mut().zip(area.chunks(PLACES)) {
+        for (place, words) in places.0.iter_mut().zip(area.chunks(TERMS)) {
             let f = Polynomial::of(words);
             *place = f.degree().map(|_| Record { modulus, f });
         }
@@ -82,8 +75,8 @@ impl Places {
         others.any(|other| other != self.modulus())
     }
 
-    /// "The used places are not the first ones, none is used": counted from the
-    /// left, they would be places 0, 1, 2 and so on.
+    /// "The used places are not the first ones, none is used": counted from the left, they would be places 0, 1, 2
+    /// and so on.
     pub fn not_the_first(&self) -> bool {
         let mut counted = self.used().enumerate().peekable();
         counted.peek().is_none() || counted.any(|(count, (place, _))| count != place)
@@ -96,7 +89,7 @@ impl Places {
     }
 
     pub fn too_high(&self) -> bool {
-        self.composed_degree() > TOP_DEGREE
+        self.composed_degree() > LIMIT
     }
 
     /// The parts composed, where nothing is refused.
@@ -104,33 +97,20 @@ impl Places {
         chain_composed(&self.parts(), self.modulus())
     }
 
-    /// These places in an area: all its first 762 words are another's then,
-    /// "words past 762 never change".
+    /// These places in an area: all words that are used are another's then, and those past them never change.
     pub fn in_area(&self, area: &[u32]) -> Vec<u32> {
         let part = |place: &Option<Record>| place.as_ref().map(|record| record.f.clone());
         let parts = self.0.each_ref().map(part);
         filled(area, &parts.map(|part| part.unwrap_or(Polynomial::ZERO)))
     }
 
-    /// These places in a sheet: "bytes past 3,072 never change".
+    /// These places in a sheet: bytes past those that are used never change.
     pub fn in_sheet(&self, sheet: &[u8]) -> Vec<u8> {
         let mut after = sheet.to_vec();
-        after[..SHEET_BYTES].fill(0);
+        after[..SHEET].fill(0);
         for (place, record) in self.used() {
-            after[place * RECORD_BYTES..][..RECORD_BYTES].copy_from_slice(&record.bytes());
+            after[place * BYTES..][..BYTES].copy_from_slice(&record.bytes());
         }
         after
-    }
-}
-
-impl fmt::Display for Places {
-    fn fmt(&self, out: &mut fmt::Formatter) -> fmt::Result {
-        for (place, record) in self.0.iter().enumerate() {
-            match record {
-                Some(record) => writeln!(out, "  place {place}: {record}")?,
-                None => writeln!(out, "  place {place}: not used")?,
-            }
-        }
-        Ok(())
     }
 }

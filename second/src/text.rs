@@ -1,10 +1,8 @@
-//! Typed polynomials by request No. 6: "sums and differences of products; a
-//! product's factors are a number, x or a bracket holding a sum, joined by *,
-//! each with an optional power".
+//! Typed polynomials by request No. 6: "sums and differences of products; a product's factors are a number, x or a
+//! bracket holding a sum, joined by *, each with an optional power".
 //!
-//! A text is gone through three times, and nothing is built before it is known
-//! to be good: `language` finds the first byte that can stand in no text,
-//! `steps` puts what is to be done in the order of doing it, `meaning` does it.
+//! A text is gone through three times, and nothing is built before it is known to be good: `language` finds the first
+//! byte that can stand in no text, `steps` puts what is to be done in the order of doing it, `meaning` does it.
 
 pub mod damage;
 pub mod inputs;
@@ -17,15 +15,15 @@ pub mod terms;
 pub mod too_high;
 pub mod writing;
 
-use crate::answer::One;
+use crate::answer::Answer;
 use crate::asked::Asked;
-use crate::modulus::Modulus;
-use crate::operation::Own;
+use crate::desk::TEXT_BYTES;
+use crate::entry::Own;
+use crate::operation::Operation;
 use crate::refused::{Refused, FIRST};
-use std::fmt;
 
 /// "Text has 1 to 8,192 bytes."
-pub const MOST_BYTES: usize = 8_192;
+pub const MOST_BYTES: usize = TEXT_BYTES;
 /// "Numbers have at most 10 digits .. Powers are written likewise."
 pub const MOST_DIGITS: usize = 10;
 /// "Brackets nest at most 8 deep."
@@ -35,49 +33,27 @@ pub const MOST_OPEN: usize = 8;
 pub const MISSPELT: Refused = Refused::plain(13);
 /// "14 at a ninth open bracket where one may open."
 pub const TOO_DEEP: Refused = Refused::plain(14);
-/// A sum, product or power "has a nonzero coefficient above x^126".
+/// A sum, product or power has a nonzero coefficient above the limit.
 pub const TOO_HIGH: Refused = Refused::plain(10);
 
-/// What a student sends, right or wrong.
-#[derive(Clone)]
-pub struct Typed {
-    pub m: Modulus,
-    pub text: Vec<u8>,
-}
-
-impl Typed {
-    pub fn new(m: Modulus, text: impl Into<Vec<u8>>) -> Typed {
-        let text = text.into();
-        Typed { m, text }
+/// The answer to the reader of texts.
+///
+/// Where a text is misspelt or too deep it has no meaning, and 10 stands here if a reader that built things on the
+/// way would have met it before the fault. Beside 10 stand 3 and 4 if they are due where what is above the limit is
+/// left out.
+pub fn own(asked: &Asked) -> Own {
+    let (m, text) = (asked.m, &asked.bytes);
+    let mut due = asked.refusals_due();
+    let fault = language::first_fault(text);
+    due.extend(fault.as_ref().map(|fault| fault.refused));
+    let steps = match &fault {
+        Some(fault) => steps::of_beginning(&text[..fault.place]),
+        None => steps::of_text(text),
+    };
+    let built = meaning::built(&steps, m);
+    due.extend(built.too_high.then_some(TOO_HIGH));
+    if fault.is_none() {
+        due.extend(built.polynomial.refusals_due(m, FIRST));
     }
-
-    /// The answer to the reader of texts.
-    ///
-    /// Where a text is misspelt or too deep it has no meaning, and 10 stands
-    /// here if a reader that built things on the way would have met it before
-    /// the fault. Beside 10 stand 3 and 4 if they are due where what is above
-    /// x^126 is left out.
-    pub fn own(&self) -> Own<One> {
-        let mut due = Asked::none(self.m).refusals_due();
-        let fault = language::first_fault(&self.text);
-        due.extend(fault.as_ref().map(|fault| fault.refused));
-        let steps = match &fault {
-            Some(fault) => steps::of_beginning(&self.text[..fault.place]),
-            None => steps::of_text(&self.text),
-        };
-        let built = meaning::built(&steps, self.m);
-        due.extend(built.too_high.then_some(TOO_HIGH));
-        if fault.is_none() {
-            due.extend(built.polynomial.refusals_due(self.m, FIRST));
-        }
-        Own::new(due, One::refused_with, || One::answered(built.polynomial))
-    }
-}
-
-impl fmt::Display for Typed {
-    fn fmt(&self, out: &mut fmt::Formatter) -> fmt::Result {
-        let Typed { m, text } = self;
-        writeln!(out, "m {m}")?;
-        writeln!(out, "  {} bytes: {}", text.len(), text.escape_ascii())
-    }
+    Own::new(Operation::ReadText, asked, due, || Ok(Answer::one(built.polynomial)))
 }

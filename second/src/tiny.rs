@@ -1,6 +1,5 @@
-//! Everything of a tiny size: all monic polynomials of a low degree modulo a
-//! small m, and their pairs and left parts by going through all g and all h. No
-//! theorem stands behind these answers, only the definition of a pair.
+//! Everything of a tiny size: all monic polynomials of a low degree modulo a small m, and their pairs and left parts
+//! by going through all g and all h. No theorem stands behind these answers, only the definition of a pair.
 
 pub mod chains;
 pub mod forced;
@@ -17,53 +16,22 @@ use std::sync::OnceLock;
 /// The word of a modulus, and a degree.
 pub type Size = (u32, usize);
 
-/// The sizes whose pairs are known. Where a degree can be split twice, its
-/// divisors stand here too.
+/// The sizes whose pairs are known. Where a degree can be split twice, its divisors stand here too.
+#[rustfmt::skip]
 pub const SPLIT: &[Size] = &[
-    (2, 4),
-    (3, 4),
-    (4, 4),
-    (5, 4),
-    (6, 4),
-    (7, 4),
-    (9, 4),
-    (15, 4),
-    (2, 6),
-    (3, 6),
-    (4, 6),
-    (5, 6),
-    (6, 6),
-    (2, 8),
-    (3, 8),
-    (2, 9),
-    (4, 9),
-    (2, 10),
-    (3, 10),
-    (2, 12),
-    (2, 14),
-    (2, 15),
+    (2, 4), (3, 4), (4, 4), (5, 4), (6, 4), (7, 4), (9, 4), (15, 4), (2, 6), (3, 6), (4, 6), (5, 6), (6, 6),
+    (2, 8), (3, 8), (2, 9), (4, 9), (2, 10), (3, 10), (2, 12), (2, 14), (2, 15),
 ];
 
 /// The sizes whose left parts are known, for every h.
-pub const LEFT_PART: &[Size] = &[
-    (2, 4),
-    (3, 4),
-    (4, 4),
-    (5, 4),
-    (6, 4),
-    (2, 6),
-    (3, 6),
-    (2, 8),
-    (2, 9),
-];
+pub const LEFT_PART: &[Size] = &[(2, 4), (3, 4), (4, 4), (5, 4), (6, 4), (2, 6), (3, 6), (2, 8), (2, 9)];
 
 /// How many monic polynomials there are of that size: m^n.
 pub const fn count((m, n): Size) -> u64 {
     (m as u64).pow(n as u32)
 }
 
-/// The monic polynomial with that number: its other coefficients are the digits
-/// of the number to the base m.
+/// The monic polynomial with that number: its other coefficients are the digits of the number to the base m.
 pub fn monic((m, n): Size, mut number: u64) -> Polynomial {
     let mut f = Polynomial::ZERO;
     for place in &mut f.0[..n] {
@@ -112,10 +80,7 @@ fn all_pairs() -> Pairs {
 pub fn left_part(f: &Polynomial, h: &Polynomial, m: Modulus) -> Option<Polynomial> {
     static LEFT_PARTS: OnceLock<LeftParts> = OnceLock::new();
     let n = f.degree().expect("f is taken");
-    assert!(
-        LEFT_PART.contains(&(m.word(), n)),
-        "not a size that is known"
-    );
+    assert!(LEFT_PART.contains(&(m.word(), n)), "not a size that is known");
     let left_parts = LEFT_PARTS.get_or_init(all_left_parts);
     let key = (m.word(), f.used().to_vec(), h.used().to_vec());
     left_parts.get(&key).cloned()

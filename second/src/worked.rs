@@ -1,281 +1,303 @@
-//! The worked polynomials of 01, constant term first, and others at modulus
-//! 2^32 (request No. 3); and what they say about this program's own arithmetic.
+//! The worked cases of `samples/worked.cases`, which says how they are written. Both programs are held against them:
+//! the desk, and this one, which is no better a witness than its own worked cases.
 
+use crate::answer::{agree, By};
+use crate::call::call;
+use crate::common::*;
 use crate::composition::{chain_composed, composed};
-use crate::modulus::Modulus;
-use crate::polynomial::Polynomial;
+use crate::operation::NAMES;
+use crate::operations::{chain, chains, changes, check, compose, left_part, part, quick, sheets, split, texts};
+use crate::record::Record;
+use crate::text;
+use std::collections::HashMap;
 
-/// As 01 writes them: [10,3,6,7,6,3,1].
-pub type Coefficients = &'static [u32];
+const CASES: &str = include_str!("../../samples/worked.cases");
 
-pub const A: (u32, Coefficients) = (101, &[10, 3, 6, 7, 6, 3, 1]);
-pub const B: (u32, Coefficients) = (101, &[96, 3, 9, 1, 6, 0, 1]);
-pub const D: (u32, Coefficients) = (4, &[0, 0, 0, 0, 0, 0, 1, 3, 3, 1]);
-pub const E: (u32, Coefficients) = (101, &[0, 0, 9, 54, 87, 54, 8, 18, 54, 2, 12, 0, 1]);
-pub const F: (u32, Coefficients) = (101, &[1, 0, 0, 0, 1]);
-pub const F_CHANGED: (u32, Coefficients) = (101, &[2, 4, 6, 4, 1]);
-pub const G: (u32, Coefficients) = (5, &[0, 0, 1, 0, 1]);
-pub const G_CHANGED: (u32, Coefficients) = (5, &[0, 0, 4, 0, 1]);
-pub const H: (u32, Coefficients) = (2, &[1, 1, 0, 0, 1]);
-pub const I: (u32, Coefficients) = (2, &[1, 0, 0, 1, 1]);
-pub const J: (u32, Coefficients) = (2, &[0, 0, 1, 0, 1]);
-
-// At 2^32 the modulus word is 0. The figures were worked out in whole numbers
-// and reduced at the end, with no line of this program.
-
-/// What two cubic polynomials compose to.
-pub const N9: (u32, Coefficients) = (
-    0,
-    &[
-        4294967295, 1852516353, 1680891392, 2919331842, 2533407744, 4181913603, 3000000000,
-        3410065411, 2147483648, 1,
-    ],
-);
-pub const N9_PAIR: [Coefficients; 2] = [
-    &[4294967295, 2147483649, 3000000000, 1],
-    &[0, 4000000001, 2147483648, 1],
-];
-/// N9 by the change (3, 2147483649).
-pub const N9_CHANGED: (u32, Coefficients) = (
-    0,
-    &[
-        1542299427, 2134868916, 2587108213, 1723493285, 2699369138, 521650368, 2029175755,
-        2764989103, 3, 1,
-    ],
-);
-pub const N9_CHANGED_PAIR: [Coefficients; 2] = [
-    &[1542299427, 1829623381, 794164850, 1],
-    &[0, 3784974564, 1, 1],
-];
-/// N9 and x: h is forced as before, since the leading terms are the same, and
-/// x is no polynomial in h.
-pub const N9_AND_X: (u32, Coefficients) = (
-    0,
-    &[
-        4294967295, 1852516354, 1680891392, 2919331842, 2533407744, 4181913603, 3000000000,
-        3410065411, 2147483648, 1,
-    ],
-);
-
-/// A cubic polynomial after one of degree 5.
-pub const N15: (u32, Coefficients) = (
-    0,
-    &[
-        7, 2147483653, 0, 2147483657, 0, 4294967285, 0, 4294967287, 0, 4, 0, 2147483657, 0,
-        4294967290, 0, 1,
-    ],
-);
-pub const N15_PAIR: [Coefficients; 2] = [
-    &[7, 4294967291, 0, 1],
-    &[0, 2147483647, 0, 4294967294, 0, 1],
-];
-
-/// What three cubic polynomials compose to.
-pub const N27: (u32, Coefficients) = (
-    0,
-    &[
-        2147483648, 0, 0, 0, 0, 0, 4294967295, 3, 2147483648, 4294967285, 12, 18, 4294967246, 18,
-        2147483717, 4294967204, 4294967278, 144, 2147483528, 4294967263, 132, 4294967218,
-        4294967254, 102, 2147483567, 36, 4294967287, 1,
-    ],
-);
-pub const N27_PARTS: [Coefficients; 3] = [
-    &[2147483648, 0, 0, 1],
-    &[0, 1, 2147483649, 1],
-    &[0, 0, 4294967295, 1],
-];
-
-/// A cubic polynomial after a square one: n is even, and r = 3 is not.
-pub const N6: (u32, Coefficients) = (
-    0,
-    &[
-        4294967295, 1705032706, 2147483650, 939334145, 1483617283, 410065411, 1,
-    ],
-);
-pub const N6_PAIR: [Coefficients; 2] = [&[4294967295, 2, 2147483648, 1], &[0, 3000000001, 1]];
-
-/// x^2 after x^2 + 65536x: the coefficient of x^2 is 65536^2, which is 0.
-pub const N4: (u32, Coefficients) = (0, &[0, 0, 0, 131072, 1]);
-pub const N4_RIGHT: Coefficients = &[0, 65536, 1];
-
-// Request No. 5: the chains of one f need not have the same number of parts, nor
-// the same price, and the first need not be the cheapest. Modulo 25 the square of
-// 5 vanishes, modulo 9 that of 3, and at 2^32 that of 2^31.
-
-/// x^12 + 5x^9.
-pub const W12: (u32, Coefficients) = (25, &[0, 0, 0, 0, 0, 0, 0, 0, 0, 5, 0, 0, 1]);
-/// By degrees from the right 3, 2, 2: (x^2 + 15x)^2 is x^4 + 5x^3.
-pub const W12_FIRST: [Coefficients; 3] = [&[0, 0, 1], &[0, 15, 1], &[0, 0, 0, 1]];
-/// By degrees from the right 4, 3: (x^4 + 10x)^3.
-pub const W12_SECOND: [Coefficients; 2] = [&[0, 0, 0, 1], &[0, 10, 0, 0, 1]];
-
-/// x^20 + 3x^17.
-pub const W20: (u32, Coefficients) = (
-    9,
-    &[
-        0, 0, 0, 0, 0, 0, 0, 0, 0, 0, 0, 0, 0, 0, 0, 0, 0, 3, 0, 0, 1,
-    ],
-);
-/// By degrees from the right 4, 5: (x^4 + 6x)^5.
-pub const W20_FIRST: [Coefficients; 2] = [&[0, 0, 0, 0, 0, 1], &[0, 6, 0, 0, 1]];
-/// By degrees from the right 5, 2, 2: (x^5 + 3x^2)^4.
-pub const W20_SECOND: [Coefficients; 3] = [&[0, 0, 1], &[0, 0, 1], &[0, 0, 3, 0, 0, 1]];
-
-/// x^45 + 2^31·x^40.
-pub const W45: (u32, Coefficients) = (
-    0,
-    &[
-        0, 0, 0, 0, 0, 0, 0, 0, 0, 0, 0, 0, 0, 0, 0, 0, 0, 0, 0, 0, 0, 0, 0, 0, 0, 0, 0, 0, 0, 0,
-        0, 0, 0, 0, 0, 0, 0, 0, 0, 0, 2147483648, 0, 0, 0, 0, 1,
-    ],
-);
-/// By degrees from the right 5, 3, 3: (x^3 + 2^31·x^2)^3 is x^9 + 2^31·x^8.
-pub const W45_FIRST: [Coefficients; 3] =
-    [&[0, 0, 0, 1], &[0, 0, 2147483648, 1], &[0, 0, 0, 0, 0, 1]];
-/// By degrees from the right 9, 5: (x^9 + 2^31·x^4)^5.
-pub const W45_SECOND: [Coefficients; 2] = [
-    &[0, 0, 0, 0, 0, 1],
-    &[0, 0, 0, 0, 2147483648, 0, 0, 0, 0, 1],
-];
-
-/// One polynomial of 01, or one above, and the parts given for it, left to
-/// right.
-struct Chain {
-    name: &'static str,
-    whole: (u32, Coefficients),
-    parts: &'static [Coefficients],
+struct Case {
+    line: &'static str,
+    operation: Operation,
+    asked: Asked,
+    answer: Answer,
 }
 
-const CHAINS: [Chain; 20] = [
-    Chain {
-        name: "A",
-        whole: A,
-        parts: &[&[10, 3, 3, 1], &[0, 1, 1]],
-    },
-    Chain {
-        name: "B",
-        whole: B,
-        parts: &[&[96, 1, 1], &[0, 3, 0, 1]],
-    },
-    Chain {
-        name: "C",
-        whole: A,
-        parts: &[&[9, 0, 0, 1], &[1, 1, 1]],
-    },
-    Chain {
-        name: "D",
-        whole: D,
-        parts: &[&[0, 0, 0, 1], &[0, 0, 1, 1]],
-    },
-    Chain {
-        name: "E",
-        whole: E,
-        parts: &[&[0, 0, 1], &[0, 1, 1], &[0, 3, 0, 1]],
-    },
-    Chain {
-        name: "F",
-        whole: F_CHANGED,
-        parts: &[&[2, 2, 1], &[0, 2, 1]],
-    },
-    Chain {
-        name: "G",
-        whole: G_CHANGED,
-        parts: &[&[0, 4, 1], &[0, 0, 1]],
-    },
-    Chain {
-        name: "H",
-        whole: H,
-        parts: &[&[1, 1, 1], &[0, 1, 1]],
-    },
-    Chain {
-        name: "N4",
-        whole: N4,
-        parts: &[&[0, 0, 1], N4_RIGHT],
-    },
-    Chain {
-        name: "N6",
-        whole: N6,
-        parts: &N6_PAIR,
-    },
-    Chain {
-        name: "N9",
-        whole: N9,
-        parts: &N9_PAIR,
-    },
-    Chain {
-        name: "N9, changed",
-        whole: N9_CHANGED,
-        parts: &N9_CHANGED_PAIR,
-    },
-    Chain {
-        name: "N15",
-        whole: N15,
-        parts: &N15_PAIR,
-    },
-    Chain {
-        name: "N27",
-        whole: N27,
-        parts: &N27_PARTS,
-    },
-    Chain {
-        name: "W12, the first",
-        whole: W12,
-        parts: &W12_FIRST,
-    },
-    Chain {
-        name: "W12, the second",
-        whole: W12,
-        parts: &W12_SECOND,
-    },
-    Chain {
-        name: "W20, the first",
-        whole: W20,
-        parts: &W20_FIRST,
-    },
-    Chain {
-        name: "W20, the second",
-        whole: W20,
-        parts: &W20_SECOND,
-    },
-    Chain {
-        name: "W45, the first",
-        whole: W45,
-        parts: &W45_FIRST,
-    },
-    Chain {
-        name: "W45, the second",
-        whole: W45,
-        parts: &W45_SECOND,
-    },
-];
-
-/// The parts composed, where all of this program's ways agree on it.
-fn whole_of(chain: &Chain) -> Option<Polynomial> {
-    let m = Modulus::of_word(chain.whole.0);
-    let parts: Vec<_> = chain
-        .parts
-        .iter()
-        .map(|part| Polynomial::of(part))
-        .collect();
-    let (first, others) = parts.split_first()?;
-    let whole = others.iter().try_fold(first.clone(), |left, right| {
-        let by_horner = left.compose(right, m)?;
-        let by_halves = composed(&left, right, m);
-        (by_horner == by_halves).then_some(by_horner)
-    })?;
-    (chain_composed(&parts, m) == whole).then_some(whole)
+/// Compares all of them; gives what is to be said of it.
+pub fn compare(seed: u64) -> Result<String, String> {
+    let cases = cases()?;
+    let mut said = String::new();
+    for (name, operation) in NAMES {
+        let entry = Entry { name, operation, ..Entry::USUAL };
+        let mut count = 0;
+        for (case, index) in cases.iter().filter(|case| case.operation == operation).zip(0..) {
+            let wrong = |what: String| entry.difference(&format!("worked case {}", case.line), &case.asked, &what);
+            agree(By("case", &case.answer), By("own", &own(operation, &case.asked).answer)).map_err(wrong)?;
+            let mut random = Random::for_input(seed, "worked cases", index);
+            let desk = call(operation, &case.asked, &mut random).map_err(wrong)?;
+            agree(By("case", &case.answer), By("desk", &desk)).map_err(wrong)?;
+            count += 1;
+        }
+        said += &format!("{name}: {count} worked cases, no difference\n");
+    }
+    Ok(said + &own_arithmetic(&cases)?)
 }
 
-/// The parts compose to the polynomial, by this program's own arithmetic. A
-/// comparison with a second program that cannot compose would say nothing.
-pub fn own_arithmetic() -> Result<usize, String> {
-    for chain in &CHAINS {
-        if whole_of(chain) != Some(Polynomial::of(chain.whole.1)) {
-            let name = chain.name;
-            return Err(format!(
-                "own arithmetic: the parts of {name} do not compose to it"
-            ));
+fn own(operation: Operation, asked: &Asked) -> Own {
+    let own = match operation {
+        Operation::Check => check::own,
+        Operation::Compose => compose::own,
+        Operation::LeftPart => left_part::own,
+        Operation::Split => split::own,
+        Operation::Quick => quick::own,
+        Operation::ChangePolynomial => changes::own_of_polynomial,
+        Operation::ChangePair => changes::own_of_pair,
+        Operation::Combine => changes::own_combined,
+        Operation::Undo => changes::own_undone,
+        Operation::Chain => chain::own,
+        Operation::CountChains => chains::own_count,
+        Operation::NthChain => chains::own_nth,
+        Operation::Part => part::own,
+        Operation::WriteSheet => sheets::own_written,
+        Operation::ReadSheet => sheets::own_read,
+        Operation::ReadText => text::own,
+        Operation::WriteText => texts::own_written,
+    };
+    own(asked)
+}
+
+/// The parts of a chain compose to its polynomial, by all of this program's ways. A comparison with a second program
+/// that cannot compose would say nothing.
+fn own_arithmetic(cases: &[Case]) -> Result<String, String> {
+    let found =
+        |case: &&Case| !case.answer.is_refused() && matches!(case.operation, Operation::Chain | Operation::NthChain);
+    let mut count = 0;
+    for Case { line, asked, answer, .. } in cases.iter().filter(found) {
+        let parts = parts(answer.numbers[0], &answer.words);
+        let (leftmost, others) = parts.split_first().ok_or("a chain has a part")?;
+        let by_horner = others.iter().try_fold(leftmost.clone(), |left, right| left.compose(right, asked.m));
+        let by_halves = others.iter().fold(leftmost.clone(), |left, right| composed(&left, right, asked.m));
+        let f = asked.first();
+        if by_horner.as_ref() != Some(f) || by_halves != *f || chain_composed(&parts, asked.m) != *f {
+            return Err(format!("own arithmetic: the parts do not compose: {line}"));
+        }
+        count += 1;
+    }
+    Ok(format!("own arithmetic: {count} worked chains compose\n"))
+}
+
+// Read from the file.
+
+fn cases() -> Result<Vec<Case>, String> {
+    let (mut cases, mut names) = (Vec::new(), HashMap::new());
+    for line in CASES.lines().filter(|line| !line.is_empty() && !line.starts_with('#')) {
+        let body = line.split("  # ").next().unwrap_or(line);
+        let (left, right) = body.split_once(" = ").ok_or(format!("no = in: {line}"))?;
+        match left.split_once(' ') {
+            None => drop(names.insert(left, polynomial(right, &HashMap::new()).ok_or(line)?)),
+            Some((name, request)) => {
+                let operation = NAMES.iter().find(|(known, _)| *known == name).ok_or(line)?.1;
+                let (request, answer) = (with_figures(request), with_figures(right));
+                cases.extend(case(line, operation, &request, &answer, &names).ok_or(format!("no case: {line}"))?);
+            }
         }
     }
-    Ok(CHAINS.len())
+    Ok(cases)
+}
+
+/// The figures in braces worked out, left to right.
+fn with_figures(text: &str) -> String {
+    let mut figures = text.split('{');
+    let first = figures.next().unwrap_or("").to_string();
+    figures.fold(first, |text, piece| {
+        let (figure, rest) = piece.split_once('}').expect("a brace is closed");
+        let end = figure.find(|c: char| !c.is_alphabetic()).unwrap_or(figure.len());
+        let known = [
+            ("limit", LIMIT),
+            ("terms", TERMS),
+            ("parts", PARTS),
+            ("words", WORDS),
+            ("bytes", BYTES),
+            ("sheet", SHEET),
+        ];
+        let named = known.iter().find(|(name, _)| *name == &figure[..end]).expect("a figure of the desk").1;
+        let mut value = named;
+        let mut doing = &figure[end..];
+        while !doing.is_empty() {
+            let end = 1 + doing[1..].find(|c: char| !c.is_ascii_digit()).unwrap_or(doing.len() - 1);
+            let number: usize = doing[1..end].parse().expect("a number");
+            value = match &doing[..1] {
+                "+" => value + number,
+                "-" => value - number,
+                "*" => value * number,
+                _ => value / number,
+            };
+            doing = &doing[end..];
+        }
+        format!("{text}{value}{rest}")
+    })
+}
+
+type Names = HashMap<&'static str, Polynomial>;
+
+/// A list, terms, or a name.
+fn polynomial(token: &str, names: &Names) -> Option<Polynomial> {
+    if let Some(known) = names.get(token) {
+        return Some(known.clone());
+    }
+    if let Some(list) = token.strip_prefix('[').and_then(|rest| rest.strip_suffix(']')) {
+        let coefficients: Option<Vec<u32>> = list.split_terminator(',').map(|c| c.parse().ok()).collect();
+        return Some(Polynomial::of(&coefficients?));
+    }
+    let mut f = Polynomial::ZERO;
+    for term in token.split('+') {
+        let (coefficient, power) = match term.split_once('x') {
+            None => (term, 0),
+            Some((before, "")) => (before, 1),
+            Some((before, power)) => (before, power.strip_prefix('^')?.parse().ok()?),
+        };
+        f.0[power] = match coefficient {
+            "" => 1,
+            number => number.trim_end_matches('*').parse().ok()?,
+        };
+    }
+    Some(f)
+}
+
+fn record(token: &str, names: &Names) -> Option<Vec<u8>> {
+    if let Some(list) = token.strip_prefix('<').and_then(|rest| rest.strip_suffix('>')) {
+        let mut bytes: Vec<u8> = list.split(',').map(|byte| byte.parse().ok()).collect::<Option<_>>()?;
+        bytes.resize(BYTES, 0);
+        return Some(bytes);
+    }
+    match token.split_once(':') {
+        None => (token == "-").then(|| vec![0; BYTES]),
+        Some((m, f)) => Some(Record { modulus: Modulus::of_word(m.parse().ok()?), f: polynomial(f, names)? }.bytes()),
+    }
+}
+
+/// "+0"*3, and \x20 for a byte.
+fn quoted(token: &str) -> Option<Vec<u8>> {
+    let (text, times) = token.strip_prefix('"')?.rsplit_once('"')?;
+    let mut pieces = text.split("\\x");
+    let mut bytes = pieces.next()?.as_bytes().to_vec();
+    for piece in pieces {
+        bytes.push(u8::from_str_radix(piece.get(..2)?, 16).ok()?);
+        bytes.extend(piece[2..].bytes());
+    }
+    let times = times.strip_prefix('*').map_or(Some(1), |times| times.parse().ok())?;
+    Some(bytes.repeat(times))
+}
+
+fn refused(token: &str) -> Option<Refused> {
+    let mut words = token.strip_prefix("No.")?.split(',');
+    let number = words.next()?.parse().ok()?;
+    let polynomial = match words.next() {
+        None => return Some(Refused::plain(number)),
+        Some("first") => FIRST,
+        Some("second") => SECOND,
+        Some(place) => at_place(place.strip_prefix("place")?.parse().ok()?),
+    };
+    Some(Refused { number, polynomial, power: words.next().map_or(Some(0), |power| power.parse().ok())? })
+}
+
+/// What stands on one side of a line.
+#[derive(Default)]
+struct Side {
+    numbers: Vec<usize>,
+    polynomials: Vec<Polynomial>,
+    parts: Vec<Polynomial>,
+    records: Vec<u8>,
+    text: Vec<u8>,
+    lengths: Vec<usize>,
+}
+
+fn side(text: &str, names: &Names) -> Option<Side> {
+    let mut side = Side::default();
+    let (mut inside, mut behind_in) = (false, false);
+    for token in text.split(' ') {
+        match token.as_bytes() {
+            b"(" => inside = true,
+            b")" => inside = false,
+            b"in" => behind_in = true,
+            [b'"', ..] => side.text.extend(quoted(token)?),
+            [b'<' | b'-', ..] => side.records.extend(record(token, names)?),
+            _ if token.contains(':') => side.records.extend(record(token, names)?),
+            [b'0'..=b'9', ..] if !token.contains('x') => match behind_in {
+                true => side.lengths.push(token.parse().ok()?),
+                false => side.numbers.push(token.parse().ok()?),
+            },
+            _ if inside => side.parts.push(polynomial(token, names)?),
+            _ => side.polynomials.push(polynomial(token, names)?),
+        }
+    }
+    Some(side)
+}
+
+/// What stands in lent memory that is given nothing, or past what is given.
+const WORD: u32 = 0xDEAD_BEEF;
+const BYTE: u8 = 0xEE;
+
+/// As long as it says, with garbage past what is given.
+fn lent<T: Copy>(mut given: Vec<T>, length: usize, garbage: T) -> Vec<T> {
+    given.resize(length, garbage);
+    given
+}
+
+/// The request: what is lent is longer than what is used where no length is given.
+fn asked(operation: Operation, mut side: Side) -> Option<Asked> {
+    let mut lengths = side.lengths.into_iter();
+    let mut length = |usual| lengths.next().unwrap_or(usual);
+    let m = match operation {
+        Operation::Check | Operation::Part | Operation::ReadSheet => WHOLE_WORDS,
+        _ => Modulus::of_word(u32::try_from(side.numbers.remove(0)).ok()?),
+    };
+    let words = match operation {
+        Operation::Part | Operation::WriteSheet => lent(filled(&[0; WORDS], &side.parts), length(WORDS + 38), WORD),
+        _ if operation.fills_area() => vec![WORD; length(WORDS + 38)],
+        _ => Vec::new(),
+    };
+    let bytes = match operation {
+        Operation::Check => lent(side.records, length(BYTES), 0),
+        Operation::WriteSheet => vec![BYTE; length(SHEET + 28)],
+        Operation::ReadSheet => lent(lent(side.records, SHEET, 0), length(SHEET + 28), BYTE),
+        Operation::WriteText => vec![BYTE; length(TEXT_MOST)],
+        _ => side.text,
+    };
+    Some(Asked { m, polynomials: side.polynomials, numbers: side.numbers, words, bytes })
+}
+
+/// The answer to it: past what is written, lent memory stays.
+fn answered(operation: Operation, asked: &Asked, side: &Side) -> Answer {
+    let mut bytes = if operation.fills_bytes() { asked.bytes.clone() } else { Vec::new() };
+    let written = match operation {
+        Operation::WriteSheet => lent(side.records.clone(), SHEET, 0),
+        _ => side.text.clone(),
+    };
+    bytes[..written.len()].copy_from_slice(&written);
+    let words = if operation.fills_area() { filled(&asked.words, &side.parts) } else { Vec::new() };
+    let (numbers, polynomials) = (side.numbers.clone(), side.polynomials.clone());
+    Answer { refused: Refused::ANSWERED, numbers, polynomials, words, bytes }
+}
+
+/// The case, and for a written text those in areas that are just long enough and too short.
+fn case(line: &'static str, operation: Operation, request: &str, answer: &str, names: &Names) -> Option<Vec<Case>> {
+    let asked = asked(operation, side(request, names)?)?;
+    let refused_by = |refused, asked: Asked| {
+        let answer = operation.refused(refused, &asked);
+        Case { line, operation, asked, answer }
+    };
+    if let Some(refused) = refused(answer) {
+        return Some(vec![refused_by(refused, asked)]);
+    }
+    let side = side(answer, names)?;
+    let answered_in = |asked: Asked| {
+        let answer = answered(operation, &asked, &side);
+        Case { line, operation, asked, answer }
+    };
+    let mut cases = vec![answered_in(asked.clone())];
+    if operation == Operation::WriteText {
+        let needed = side.text.len();
+        let of = |length| asked.clone().bytes(vec![BYTE; length]);
+        cases.extend([needed, needed + 1].map(|length| answered_in(of(length))));
+        cases.extend([needed - 1, 1, 0].map(|length| refused_by(SHORT, of(length))));
+    }
+    Some(cases)
 }

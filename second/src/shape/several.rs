@@ -1,11 +1,11 @@
-//! Shapes that have more than one chain as a rule: x^n and the Chebyshev
-//! polynomials, which split at every divisor of n, those that split in two
-//! orders, and compositions of all of these.
+//! Shapes that have more than one chain as a rule: x^n and the Chebyshev polynomials, which split at every divisor of
+//! n, those that split in two orders, and compositions of all of these.
 
 use super::Shape;
+use crate::desk::LIMIT;
 use crate::inputs;
 use crate::modulus::Modulus;
-use crate::polynomial::{Polynomial, TOP_DEGREE};
+use crate::polynomial::Polynomial;
 use crate::random::Random;
 use crate::residue::{add, common_factor, inverse, multiply, subtract};
 use std::iter;
@@ -16,20 +16,17 @@ impl Shape {
         let odd = random.once_in(3);
         let fits = |shape: &Shape| {
             let n = shape.degree();
-            n <= TOP_DEGREE && !(odd && n.is_multiple_of(2))
+            n <= LIMIT && !(odd && n.is_multiple_of(2))
         };
-        iter::repeat_with(|| composition(random))
-            .find(fits)
-            .expect("some of them fit")
+        iter::repeat_with(|| composition(random)).find(fits).expect("some of them fit")
     }
 }
 
 /// Degrees whose prime factors have many orders.
 const MANY_ORDERS: [usize; 14] = [30, 42, 45, 60, 63, 72, 75, 84, 90, 99, 105, 105, 120, 126];
 
-/// 1 to 4 shapes, each after the next; now and then one with many chains. Each
-/// may have its own unit and origin, so that some commute with their neighbours
-/// and some do not.
+/// 1 to 4 shapes, each after the next; now and then one with many chains. Each may have its own unit and origin, so
+/// that some commute with their neighbours and some do not.
 fn composition(random: &mut Random) -> Shape {
     if random.once_in(24) {
         return with_many_orders(random);
@@ -57,21 +54,12 @@ fn one(random: &mut Random) -> Shape {
 
 /// Of a low degree, which leaves room for others.
 fn in_two_orders(random: &mut Random) -> Shape {
-    Shape::TwoOrders {
-        d: random.pick(&[2, 2, 3, 3, 5]),
-        k: random.between(0, 3),
-        p_degree: random.pick(&[1, 1, 2]),
-    }
+    Shape::TwoOrders { d: random.pick(&[2, 2, 3, 3, 5]), k: random.between(0, 3), p_degree: random.pick(&[1, 1, 2]) }
 }
 
-/// What is f modulo one factor of m and `other` modulo the other one, where
-/// such factors are known: it splits only where both do.
-pub fn mixed(
-    f: &Polynomial,
-    other: &Polynomial,
-    m: Modulus,
-    random: &mut Random,
-) -> Option<Polynomial> {
+/// What is f modulo one factor of m and `other` modulo the other one, where such factors are known: it splits only
+/// where both do.
+pub fn mixed(f: &Polynomial, other: &Polynomial, m: Modulus, random: &mut Random) -> Option<Polynomial> {
     let mut p = u64::from(inputs::factor(m, random)?);
     let mut q = m.number() / p;
     // All that they share goes into p.

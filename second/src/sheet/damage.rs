@@ -3,14 +3,14 @@
 use super::{inputs, Places};
 use crate::asked::Asked;
 use crate::damage;
+use crate::desk::BYTES;
 use crate::modulus::{Modulus, WHOLE_WORDS};
 use crate::polynomial::Polynomial;
 use crate::random::Random;
-use crate::record::{Record, RECORD_BYTES};
+use crate::record::Record;
 use crate::refused::Refused;
 
-/// Makes those of the lines due that are about the record at this place, by
-/// its own modulus.
+/// Makes those of the lines due that are about the record at this place, by its own modulus.
 pub fn spoil(place: &mut Option<Record>, lines: &[Refused], random: &mut Random) {
     let Some(record) = place else { return };
     let mut asked = Asked::one(record.modulus, record.f.clone());
@@ -19,8 +19,7 @@ pub fn spoil(place: &mut Option<Record>, lines: &[Refused], random: &mut Random)
     *record = Record { modulus, f };
 }
 
-/// One record gets another modulus, or each does; each part is taken by its
-/// own.
+/// One record gets another modulus, or each does; each part is taken by its own.
 pub fn part_the_moduli(places: &mut Places, random: &mut Random) {
     let one = random.between(0, places.used().count().max(1) - 1);
     let all = random.once_in(4);
@@ -34,8 +33,7 @@ pub fn part_the_moduli(places: &mut Places, random: &mut Random) {
     }
 }
 
-/// Often one that looks the same when only some of its bytes are looked at, or
-/// 2^32, which looks like none.
+/// Often one that looks the same when only some of its bytes are looked at, or 2^32, which looks like none.
 fn other_modulus(m: Modulus, random: &mut Random) -> Modulus {
     loop {
         let (word, any) = (m.word(), inputs::modulus(random).word());
@@ -49,11 +47,11 @@ fn other_modulus(m: Modulus, random: &mut Random) -> Modulus {
     }
 }
 
-/// A record with one byte that is not zero, or with its modulus only: it is
-/// used, but for a modulus of 2^32 only, which is 512 zero bytes.
+/// A record with one byte that is not zero, or with its modulus only: it is used, but for a modulus of 2^32 only,
+/// which is zero bytes.
 pub fn faint(record: &mut [u8], modulus: Modulus, random: &mut Random) {
-    let any = random.between(0, RECORD_BYTES - 1);
-    let byte = random.pick(&[0, 3, 4, RECORD_BYTES - 1, RECORD_BYTES - 1, any]);
+    let any = random.between(0, BYTES - 1);
+    let byte = random.pick(&[0, 3, 4, BYTES - 1, BYTES - 1, any]);
     let f = Polynomial::ZERO;
     record.copy_from_slice(&Record { modulus, f }.bytes());
     if random.once_in(2) {

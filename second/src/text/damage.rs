@@ -1,5 +1,4 @@
-//! Texts that are one small step off another: a byte is inserted, removed,
-//! replaced, or two are exchanged.
+//! Texts that are one small step off another: a byte is inserted, removed, replaced, or two are exchanged.
 
 use super::language::Beginning;
 use crate::random::Random;

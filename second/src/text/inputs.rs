@@ -1,10 +1,9 @@
-//! Texts in the language: sums of all forms, and such as mean a polynomial that
-//! is taken.
+//! Texts in the language: sums of all forms, and such as mean a polynomial that is taken.
 
 use super::{MOST_DIGITS, MOST_OPEN};
+use crate::desk::LIMIT;
 use crate::inputs;
 use crate::modulus::Modulus;
-use crate::polynomial::TOP_DEGREE;
 use crate::random::Random;
 
 /// What a piece of text may hold.
@@ -19,11 +18,7 @@ pub struct Room {
 
 impl Room {
     pub fn whole(m: Modulus) -> Room {
-        Room {
-            m,
-            high: TOP_DEGREE,
-            open: MOST_OPEN,
-        }
+        Room { m, high: LIMIT, open: MOST_OPEN }
     }
 
     pub fn up_to(self, high: usize) -> Room {
@@ -31,15 +26,11 @@ impl Room {
     }
 
     fn inside(self) -> Room {
-        Room {
-            open: self.open - 1,
-            ..self
-        }
+        Room { open: self.open - 1, ..self }
     }
 }
 
-/// A sum and one more behind it. A minus that the second begins with is the sign
-/// between them then.
+/// A sum and one more behind it. A minus that the second begins with is the sign between them then.
 pub fn added(first: &str, second: &str) -> String {
     match second.starts_with('-') {
         true => format!("{first}{second}"),
@@ -118,7 +109,7 @@ fn factor(room: Room, random: &mut Random) -> String {
         0 if room.open > 0 => bracket(room, random),
         1 | 2 => {
             let base = number(room.m, random);
-            let any = random.between(0, TOP_DEGREE);
+            let any = random.between(0, LIMIT);
             let power = random.pick(&[1, 1, 1, 1, 1, 1, 1, 1, 0, 2, 3, any]);
             base + &raised(power, random)
         }
@@ -134,7 +125,7 @@ fn factor(room: Room, random: &mut Random) -> String {
 fn bracket(room: Room, random: &mut Random) -> String {
     let any = random.between(1, room.high.max(1));
     let power = random.pick(&[0, 1, 1, 1, 2, 3, any]);
-    let high = room.high.checked_div(power).unwrap_or(TOP_DEGREE);
+    let high = room.high.checked_div(power).unwrap_or(LIMIT);
     let inside = sum(room.inside().up_to(high), random);
     nested(1, &inside) + &raised(power, random)
 }
@@ -189,14 +180,11 @@ fn monic_product(n: usize, room: Room, random: &mut Random) -> String {
 /// Of a polynomial that is taken; all brackets are used at times.
 pub fn taken(m: Modulus, random: &mut Random) -> String {
     let n = match random.below(16) {
-        0 => TOP_DEGREE,
+        0 => LIMIT,
         1..4 => inputs::degree(random),
         _ => random.between(2, 12),
     };
     let brackets = random.pick(&[0, 0, 0, 1, MOST_OPEN - 1, MOST_OPEN]);
-    let room = Room {
-        open: MOST_OPEN - brackets,
-        ..Room::whole(m)
-    };
+    let room = Room { open: MOST_OPEN - brackets, ..Room::whole(m) };
     nested(brackets, &monic(n, room, random))
 }

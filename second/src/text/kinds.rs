@@ -1,11 +1,13 @@
-//! Kinds of texts that have to be met by the reader: what those that are read
-//! have, and what is the matter with the others.
+//! Kinds of texts that have to be met by the reader: what those that are read have, and what is the matter with the
+//! others.
 
 use super::damage::LETTERS;
 use super::language::{first_fault, Fault};
-use super::{meaning, steps, Typed, MISSPELT, MOST_BYTES, MOST_DIGITS, MOST_OPEN};
+use super::{meaning, steps, MISSPELT, MOST_BYTES, MOST_DIGITS, MOST_OPEN};
+use crate::asked::Asked;
+use crate::desk::LIMIT;
 use crate::modulus::Modulus;
-use crate::polynomial::{Polynomial, TOP_DEGREE};
+use crate::polynomial::Polynomial;
 use std::collections::BTreeSet;
 
 // Texts that are read.
@@ -17,34 +19,23 @@ const NOT_BELOW_M: &str = "number that is m or more";
 const ZEROS: &str = "leading zeros";
 const POWER_TEN_DIGITS: &str = "power of 10 digits";
 const POWER_0: &str = "power 0";
-const POWER_126: &str = "power 126";
+const HIGHEST_POWER: &str = "power at the limit";
 const BRACKET_POWER_0: &str = "bracket to the power 0";
 const EIGHT_OPEN: &str = "8 brackets open";
 const NEVER_NINE: &str = "9 brackets or more, 8 at once at most";
 const LONGEST: &str = "8192 bytes";
-const DEGREE_126: &str = "degree 126";
-const VANISHED: &str = "vanishes above x^126";
+const HIGHEST: &str = "highest degree";
+const VANISHED: &str = "vanishes above the limit";
 
+#[rustfmt::skip]
 pub const READ: [&str; 14] = [
-    MINUS_FIRST,
-    MINUS_INSIDE,
-    TEN_DIGITS,
-    ZEROS,
-    POWER_TEN_DIGITS,
-    POWER_0,
-    POWER_126,
-    BRACKET_POWER_0,
-    EIGHT_OPEN,
-    NEVER_NINE,
-    LONGEST,
-    DEGREE_126,
-    NOT_BELOW_M,
-    VANISHED,
+    MINUS_FIRST, MINUS_INSIDE, TEN_DIGITS, ZEROS, POWER_TEN_DIGITS, POWER_0, HIGHEST_POWER, BRACKET_POWER_0,
+    EIGHT_OPEN, NEVER_NINE, LONGEST, HIGHEST, NOT_BELOW_M, VANISHED,
 ];
 
 /// Of a text that is read, and what it means.
-pub fn of_read(typed: &Typed, f: &Polynomial) -> Vec<&'static str> {
-    let Typed { m, text } = typed;
+pub fn of_read(asked: &Asked, f: &Polynomial) -> Vec<&'static str> {
+    let (m, text) = (&asked.m, &asked.bytes);
     let has = |piece: &[u8]| text.windows(piece.len()).any(|bytes| bytes == piece);
     let opened = text.iter().filter(|&&byte| byte == b'(').count();
     let vanished = meaning::built(&steps::of_text(text), *m).vanished;
@@ -56,7 +47,7 @@ pub fn of_read(typed: &Typed, f: &Polynomial) -> Vec<&'static str> {
     met(EIGHT_OPEN, most_at_once(text) == MOST_OPEN);
     met(NEVER_NINE, opened > MOST_OPEN);
     met(LONGEST, text.len() == MOST_BYTES);
-    met(DEGREE_126, f.degree() == Some(TOP_DEGREE));
+    met(HIGHEST, f.degree() == Some(LIMIT));
     met(VANISHED, vanished);
     kinds.into_iter().collect()
 }
@@ -76,7 +67,7 @@ fn of_numbers(text: &[u8], m: Modulus) -> BTreeSet<&'static str> {
         met(ZEROS, digits.len() > 1 && digits[0] == b'0');
         met(POWER_TEN_DIGITS, is_power && digits.len() == MOST_DIGITS);
         met(POWER_0, is_power && number == 0);
-        met(POWER_126, is_power && number == TOP_DEGREE as u64);
+        met(HIGHEST_POWER, is_power && number == LIMIT as u64);
         met(TEN_DIGITS, !is_power && digits.len() == MOST_DIGITS);
         met(NOT_BELOW_M, !is_power && number >= m.number());
     }
@@ -87,8 +78,7 @@ fn value(digits: &[u8]) -> Option<u64> {
     std::str::from_utf8(digits).ok()?.parse().ok()
 }
 
-/// The most brackets that are open at once; those that close none count for
-/// nothing.
+/// The most brackets that are open at once; those that close none count for nothing.
 pub fn most_at_once(text: &[u8]) -> usize {
     let mut open: usize = 0;
     let mut most = 0;
@@ -113,7 +103,7 @@ const NOT_OPENED: &str = "bracket not opened";
 const EMPTY_BRACKET: &str = "empty bracket";
 const ELEVEN_DIGITS: &str = "number of 11 digits";
 const POWER_ELEVEN_DIGITS: &str = "power of 11 digits";
-const POWER_127: &str = "power above 126";
+const POWER_ABOVE: &str = "power above the limit";
 const SECOND_POWER: &str = "second power";
 const TWO_SIGNS: &str = "two signs";
 const PLUS_FIRST: &str = "begins with a plus";
@@ -123,23 +113,10 @@ const NINTH_ELSEWHERE: &str = "ninth bracket where none may open";
 const THEN_DEEP: &str = "No. 13, then nine brackets";
 const THEN_MISSPELT: &str = "No. 14, then a byte of no text";
 
+#[rustfmt::skip]
 pub const FAULTS: [&str; 17] = [
-    NO_BYTES,
-    TOO_LONG,
-    ENDS_EARLY,
-    UNCLOSED,
-    NOT_OPENED,
-    EMPTY_BRACKET,
-    ELEVEN_DIGITS,
-    POWER_ELEVEN_DIGITS,
-    POWER_127,
-    SECOND_POWER,
-    TWO_SIGNS,
-    PLUS_FIRST,
-    NO_STAR,
-    OTHER_BYTE,
-    NINTH_ELSEWHERE,
-    THEN_DEEP,
+    NO_BYTES, TOO_LONG, ENDS_EARLY, UNCLOSED, NOT_OPENED, EMPTY_BRACKET, ELEVEN_DIGITS, POWER_ELEVEN_DIGITS,
+    POWER_ABOVE, SECOND_POWER, TWO_SIGNS, PLUS_FIRST, NO_STAR, OTHER_BYTE, NINTH_ELSEWHERE, THEN_DEEP,
     THEN_MISSPELT,
 ];
 
@@ -180,7 +157,7 @@ fn of_place(text: &[u8], place: usize) -> Option<&'static str> {
     match (last, byte) {
         (_, b'0'..=b'9') if digits == MOST_DIGITS && in_power => Some(POWER_ELEVEN_DIGITS),
         (_, b'0'..=b'9') if digits == MOST_DIGITS => Some(ELEVEN_DIGITS),
-        (_, b'0'..=b'9') if in_power => Some(POWER_127),
+        (_, b'0'..=b'9') if in_power => Some(POWER_ABOVE),
         (_, b'(') if open => Some(NINTH_ELSEWHERE),
         (_, b'0'..=b'9' | b'x' | b'(') if last != Some(&b'^') => Some(NO_STAR),
         (_, b'^') if in_power => Some(SECOND_POWER),

@@ -1,9 +1,8 @@
-//! Which texts are in the language, byte by byte: what has been read so far can
-//! begin a text of the language, and a byte is a fault if with it that is so no
-//! longer. Nothing is taken apart here and nothing is worked out.
+//! Which texts are in the language, byte by byte: what has been read so far can begin a text of the language, and a
+//! byte is a fault if with it that is so no longer. Nothing is taken apart here and nothing is worked out.
 
 use super::{MISSPELT, MOST_BYTES, MOST_DIGITS, MOST_OPEN, TOO_DEEP};
-use crate::polynomial::TOP_DEGREE;
+use crate::desk::LIMIT;
 use crate::refused::Refused;
 
 /// The first fault from the left.
@@ -56,10 +55,7 @@ enum Last {
 use Last::*;
 
 impl Beginning {
-    pub const NOTHING: Beginning = Beginning {
-        last: SumBegins,
-        open: 0,
-    };
+    pub const NOTHING: Beginning = Beginning { last: SumBegins, open: 0 };
 
     /// With one byte more, or the fault that this byte is.
     pub fn and(self, byte: u8) -> Result<Beginning, Refused> {
@@ -70,25 +66,15 @@ impl Beginning {
             (SumBegins | FactorBegins, b'0'..=b'9') => same_bracket(Number(1)),
             (SumBegins | FactorBegins, b'x') => same_bracket(Unknown),
             (SumBegins | FactorBegins, b'(') if open == MOST_OPEN => Err(TOO_DEEP),
-            (SumBegins | FactorBegins, b'(') => Ok(Beginning {
-                last: SumBegins,
-                open: open + 1,
-            }),
-            (Number(digits), b'0'..=b'9') if digits < MOST_DIGITS => {
-                same_bracket(Number(digits + 1))
-            }
+            (SumBegins | FactorBegins, b'(') => Ok(Beginning { last: SumBegins, open: open + 1 }),
+            (Number(digits), b'0'..=b'9') if digits < MOST_DIGITS => same_bracket(Number(digits + 1)),
             (Number(_) | Unknown, b'^') => same_bracket(PowerBegins),
             (PowerBegins, b'0'..=b'9') => same_bracket(Power(1, value(byte))),
-            (Power(digits, power), b'0'..=b'9')
-                if digits < MOST_DIGITS && 10 * power + value(byte) <= TOP_DEGREE =>
-            {
+            (Power(digits, power), b'0'..=b'9') if digits < MOST_DIGITS && 10 * power + value(byte) <= LIMIT => {
                 same_bracket(Power(digits + 1, 10 * power + value(byte)))
             }
             (Number(_) | Unknown | Power(..), b'*' | b'+' | b'-') => same_bracket(FactorBegins),
-            (Number(_) | Unknown | Power(..), b')') if open > 0 => Ok(Beginning {
-                last: Unknown,
-                open: open - 1,
-            }),
+            (Number(_) | Unknown | Power(..), b')') if open > 0 => Ok(Beginning { last: Unknown, open: open - 1 }),
             _ => Err(MISSPELT),
         }
     }

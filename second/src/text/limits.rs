@@ -1,10 +1,9 @@
-//! Texts on both sides of each limit: of digits, of powers, of brackets, of the
-//! length, and texts that end too early.
+//! Texts on both sides of each limit: of digits, of powers, of brackets, of the length, and texts that end too early.
 
 use super::inputs::{added, monic, nested, number, Room};
 use super::{MOST_BYTES, MOST_DIGITS, MOST_OPEN};
+use crate::desk::LIMIT;
 use crate::modulus::Modulus;
-use crate::polynomial::TOP_DEGREE;
 use crate::random::Random;
 
 pub fn at_a_limit(m: Modulus, random: &mut Random) -> String {
@@ -45,12 +44,11 @@ fn digits(random: &mut Random) -> String {
     String::from_iter((0..width).map(digit))
 }
 
-/// Powers about 126 in so many digits, and those that look small when only some
-/// of their bits are looked at.
+/// Powers about the limit in so many digits, and those that look small when only some of their bits are looked at.
 fn power(m: Modulus, random: &mut Random) -> String {
-    let near = random.between(TOP_DEGREE - 2, TOP_DEGREE + 4) as u64;
+    let near = random.between(LIMIT - 2, LIMIT + 4) as u64;
     let any = random.below(2_000);
-    let looks_small = random.pick(&[128, 256, 258, 65_538, 1 << 31, 1 << 32, (1 << 32) + 2]);
+    let looks_small = random.pick(&[LIMIT as u64 + 2, 256, 258, 65_538, 1 << 31, 1 << 32, (1 << 32) + 2]);
     let power = random.pick(&[0, near, near, near, any, looks_small]);
     let width = random.pick(&[1, 1, 4, MOST_DIGITS, MOST_DIGITS, MOST_DIGITS + 1]);
     let base = match random.below(4) {
@@ -80,13 +78,11 @@ fn brackets(m: Modulus, random: &mut Random) -> String {
     }
 }
 
-/// A ninth bracket where one may open, and where none may; something is wrong
-/// before it or behind it at times.
+/// A ninth bracket where one may open, and where none may; something is wrong before it or behind it at times.
 fn ninth_bracket(m: Modulus, random: &mut Random) -> String {
-    let wrong = random.pick(&["", "", "", "x", "^", ")", " ", "=", "x^127"]);
-    let before = random.pick(&[
-        "", "-", "x*", "x+", "x", "2", "x^", "x^2", "(x)", "+", "-x-",
-    ]);
+    let too_high = format!("x^{}", LIMIT + 1);
+    let wrong = random.pick(&["", "", "", "x", "^", ")", " ", "=", &too_high]);
+    let before = random.pick(&["", "-", "x*", "x+", "x", "2", "x^", "x^2", "(x)", "+", "-x-"]);
     let behind = number(m, random);
     let opened = "(".repeat(MOST_OPEN);
     let closed = ")".repeat(MOST_OPEN + 1);
@@ -96,16 +92,14 @@ fn ninth_bracket(m: Modulus, random: &mut Random) -> String {
     }
 }
 
-/// Brackets that are not closed or never opened, what the readings leave out of
-/// the language, and texts that end where something has to follow.
+/// Brackets that are not closed or never opened, what the readings leave out of the language, and texts that end
+/// where something has to follow.
 fn misspelt(m: Modulus, random: &mut Random) -> String {
     let open = random.between(1, MOST_OPEN);
     let closed = random.between(0, MOST_OPEN + 1);
     let piece = number(m, random);
     let end = random.pick(&["+", "-", "*", "^", "(", "-)", "x+)", "x*)", "x^)", ""]);
-    let wrong = random.pick(&[
-        "()", "()", "+x", "(+x)", "--x", "x+-x", "x^2^2", "(x)^2^3", "2x", "x(x)", "X", " x",
-    ]);
+    let wrong = random.pick(&["()", "()", "+x", "(+x)", "--x", "x+-x", "x^2^2", "(x)^2^3", "2x", "x(x)", "X", " x"]);
     match random.below(4) {
         0 => format!("{}{piece}{}", "(".repeat(open), ")".repeat(closed)),
         1 => format!("x^2+{piece}{end}"),
@@ -126,10 +120,7 @@ pub fn long(m: Modulus, random: &mut Random) -> String {
         2 => "1".repeat(length),
         3 => long_product(length),
         _ => {
-            let room = Room {
-                open: 3,
-                ..Room::whole(m)
-            };
+            let room = Room { open: 3, ..Room::whole(m) };
             let n = random.between(2, 12);
             padded(monic(n, room, random), length, random)
         }
@@ -138,11 +129,7 @@ pub fn long(m: Modulus, random: &mut Random) -> String {
 
 /// x^2 times 1, again and again.
 fn long_product(length: usize) -> String {
-    let first = if length.is_multiple_of(2) {
-        "x^02"
-    } else {
-        "x^2"
-    };
+    let first = if length.is_multiple_of(2) { "x^02" } else { "x^2" };
     let times = (length - first.len()) / 2;
     format!("{first}{}", "*1".repeat(times))
 }

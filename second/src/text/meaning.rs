@@ -1,44 +1,29 @@
-//! What the steps of a text come to modulo m, and whether anything on the way
-//! was too high.
+//! What the steps of a text come to modulo m, and whether anything on the way was too high.
 
 use super::steps::Step;
 use super::terms::Terms;
+use crate::desk::LIMIT;
 use crate::modulus::Modulus;
-use crate::polynomial::{Polynomial, TOP_DEGREE};
+use crate::polynomial::Polynomial;
 
 pub struct Built {
     /// All zero if the steps are none.
     pub polynomial: Polynomial,
-    /// "If any sum, product or power .. has a nonzero coefficient above x^126."
-    /// What is above is left out then, and building goes on.
+    /// "If any sum, product or power .. has a nonzero coefficient above the limit." What is above is left out then,
+    /// and building goes on.
     pub too_high: bool,
-    /// Whether some product had a formal degree above 126, and vanished there
-    /// modulo m.
+    /// Whether some product had a formal degree above the limit, and vanished there modulo m.
     pub vanished: bool,
 }
 
 pub fn built(steps: &[Step], m: Modulus) -> Built {
-    let mut building = Building {
-        m,
-        values: Vec::new(),
-        too_high: false,
-        vanished: false,
-    };
+    let mut building = Building { m, values: Vec::new(), too_high: false, vanished: false };
     for &step in steps {
         let value = building.after(step);
         building.values.push(value);
     }
-    let Building {
-        values,
-        too_high,
-        vanished,
-        ..
-    } = building;
-    Built {
-        polynomial: values.last().map_or(Polynomial::ZERO, Terms::polynomial),
-        too_high,
-        vanished,
-    }
+    let Building { values, too_high, vanished, .. } = building;
+    Built { polynomial: values.last().map_or(Polynomial::ZERO, Terms::polynomial), too_high, vanished }
 }
 
 struct Building {
@@ -74,9 +59,7 @@ impl Building {
     }
 
     fn last(&mut self) -> Terms {
-        self.values
-            .pop()
-            .expect("a step follows what it is done with")
+        self.values.pop().expect("a step follows what it is done with")
     }
 
     fn last_two(&mut self) -> (Terms, Terms) {
@@ -84,8 +67,7 @@ impl Building {
         (self.last(), right)
     }
 
-    /// "A power by its base": its powers 1, 2 and so on, each tested; "anything
-    /// to the power 0 is 1".
+    /// "A power by its base": its powers 1, 2 and so on, each tested; "anything to the power 0 is 1".
     fn power(&mut self, power: usize) -> Terms {
         let base = self.last();
         match power {
@@ -94,13 +76,12 @@ impl Building {
         }
     }
 
-    /// A sum is no higher than its terms, so only here can something be too
-    /// high.
+    /// A sum is no higher than its terms, so only here can something be too high.
     fn product(&mut self, left: &Terms, right: &Terms) -> Terms {
         let product = left.times(right, self.m);
         let formal = left.degree().zip(right.degree()).map(|(n, k)| n + k);
         self.too_high |= product.too_high();
-        self.vanished |= formal > Some(TOP_DEGREE) && !product.too_high();
+        self.vanished |= formal > Some(LIMIT) && !product.too_high();
         product.cut_off()
     }
 }

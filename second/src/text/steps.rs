@@ -1,6 +1,5 @@
-//! What a good text says is to be done, step after step as on a calculator that
-//! is told the numbers first and then what to do with them: 2*x+3 is "2, x,
-//! times, 3, plus". Brackets are gone then, and so is the question what binds
+//! What a good text says is to be done, step after step as on a calculator that is told the numbers first and then
+//! what to do with them: 2*x+3 is "2, x, times, 3, plus". Brackets are gone then, and so is the question what binds
 //! closer.
 
 use super::language::value;
@@ -27,8 +26,7 @@ pub fn of_text(text: &[u8]) -> Vec<Step> {
     order.steps
 }
 
-/// Of bytes that a text may begin with: as much as is to be done whatever may
-/// follow.
+/// Of bytes that a text may begin with: as much as is to be done whatever may follow.
 pub fn of_beginning(bytes: &[u8]) -> Vec<Step> {
     Order::of(bytes).steps
 }
@@ -80,8 +78,7 @@ impl Order {
         order
     }
 
-    /// "Left to right, one term or factor at a time": what binds as close and
-    /// came earlier is done first.
+    /// "Left to right, one term or factor at a time": what binds as close and came earlier is done first.
     fn wait(&mut self, binds: Binds, step: Step) {
         self.do_down_to(binds);
         self.waiting.push((binds, Some(step)));

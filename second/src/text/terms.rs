@@ -1,13 +1,13 @@
-//! Polynomials of any degree as lists of terms, which is all that a text of few
-//! terms needs: x^126 is one of them.
+//! Polynomials of any degree as lists of terms, which is all that a text of few terms needs: a high power is one of
+//! them.
 
+use crate::desk::LIMIT;
 use crate::modulus::Modulus;
-use crate::polynomial::{Polynomial, TOP_DEGREE};
+use crate::polynomial::Polynomial;
 use crate::residue::{add, multiply, reduced, subtract};
 use std::cmp::Ordering;
 
-/// Powers of x, the highest first, with their coefficients modulo m, none of
-/// which is zero.
+/// Powers of x, the highest first, with their coefficients modulo m, none of which is zero.
 #[derive(Clone, Debug, PartialEq, Eq)]
 pub struct Terms(Vec<(usize, u32)>);
 
@@ -15,9 +15,7 @@ impl Terms {
     /// One term; none if it is zero modulo m.
     pub fn one(number: u64, power: usize, m: Modulus) -> Terms {
         let coefficient = reduced(u128::from(number), m);
-        Terms(Vec::from_iter(
-            (coefficient != 0).then_some((power, coefficient)),
-        ))
+        Terms(Vec::from_iter((coefficient != 0).then_some((power, coefficient))))
     }
 
     /// All zero has none.
@@ -26,12 +24,12 @@ impl Terms {
     }
 
     pub fn too_high(&self) -> bool {
-        self.degree() > Some(TOP_DEGREE)
+        self.degree() > Some(LIMIT)
     }
 
-    /// Without what is above x^126.
+    /// Without what is above the limit.
     pub fn cut_off(mut self) -> Terms {
-        self.0.retain(|&(power, _)| power <= TOP_DEGREE);
+        self.0.retain(|&(power, _)| power <= LIMIT);
         self
     }
 
@@ -69,9 +67,7 @@ impl Terms {
         };
         let by = |&term: &(usize, u32)| long.by_term(term, m);
         let products = short.0.iter().map(by);
-        products
-            .reduce(|sum, product| sum.plus(&product, m))
-            .unwrap_or(Terms(Vec::new()))
+        products.reduce(|sum, product| sum.plus(&product, m)).unwrap_or(Terms(Vec::new()))
     }
 
     fn by_term(&self, (power, coefficient): (usize, u32), m: Modulus) -> Terms {
@@ -80,7 +76,7 @@ impl Terms {
         Terms(products.filter(|&(_, c)| c != 0).collect())
     }
 
-    /// Where nothing is above x^126.
+    /// Where nothing is above the limit.
     pub fn polynomial(&self) -> Polynomial {
         let mut f = Polynomial::ZERO;
         for &(power, coefficient) in &self.0 {

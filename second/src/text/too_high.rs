@@ -1,17 +1,16 @@
-//! Pieces of text about No. 10: what goes above x^126 and comes back, what is
-//! multiplied by zero early or late, and what vanishes above x^126 because its
-//! coefficients share factors with m.
+//! Pieces of text about No. 10: what goes above the limit and comes back, what is multiplied by zero early or late,
+//! and what vanishes above the limit because its coefficients share factors with m.
 
 use super::inputs::{nested, number, raised};
+use crate::desk::LIMIT;
 use crate::inputs;
 use crate::modulus::Modulus;
-use crate::polynomial::TOP_DEGREE;
 use crate::random::Random;
 use crate::residue::multiply;
 
-const ABOVE: usize = TOP_DEGREE + 1;
+const ABOVE: usize = LIMIT + 1;
 
-/// Something in it is above x^126, whatever m is.
+/// Something in it is above the limit, whatever m is.
 pub fn too_high(m: Modulus, random: &mut Random) -> String {
     let high = above(m, random);
     match random.below(8) {
@@ -24,14 +23,14 @@ pub fn too_high(m: Modulus, random: &mut Random) -> String {
     }
 }
 
-/// A product that is above x^126; often it is only just so.
+/// A product that is above the limit; often it is only just so.
 fn above(m: Modulus, random: &mut Random) -> String {
-    let first = random.between(1, TOP_DEGREE);
+    let first = random.between(1, LIMIT);
     let enough = ABOVE - first;
-    let more = random.between(enough, TOP_DEGREE);
+    let more = random.between(enough, LIMIT);
     let second = random.pick(&[enough, enough, more]);
     let (first, second) = (raised(first, random), raised(second, random));
-    let power = random.between(2, TOP_DEGREE);
+    let power = random.between(2, LIMIT);
     let base = raised(ABOVE.div_ceil(power), random);
     let other = number(m, random);
     match random.below(6) {
@@ -43,7 +42,7 @@ fn above(m: Modulus, random: &mut Random) -> String {
     }
 }
 
-/// It may be above x^126, and it may vanish there modulo m.
+/// It may be above the limit, and it may vanish there modulo m.
 pub fn vanishing(m: Modulus, random: &mut Random) -> String {
     let (q, p) = (factor(m, random), factor(m, random));
     let a = raised(degree(random), random);
@@ -65,15 +64,15 @@ pub fn vanishing(m: Modulus, random: &mut Random) -> String {
     }
 }
 
-/// Above half of 126, a third of it and so on, or not.
+/// Above half of the limit, a third of it and so on, or not.
 fn degree(random: &mut Random) -> usize {
-    let near = TOP_DEGREE / random.between(1, 5);
-    let any = random.between(0, TOP_DEGREE);
-    random.pick(&[near, (near + 1).min(TOP_DEGREE), any])
+    let near = LIMIT / random.between(1, 5);
+    let any = random.between(0, LIMIT);
+    random.pick(&[near, (near + 1).min(LIMIT), any])
 }
 
-/// A power below m of a factor of m, where one is known, or a multiple of it:
-/// some power of it is 0 modulo m, if m is a power of that factor.
+/// A power below m of a factor of m, where one is known, or a multiple of it: some power of it is 0 modulo m, if m is
+/// a power of that factor.
 fn factor(m: Modulus, random: &mut Random) -> u32 {
     let factor = u64::from(inputs::factor(m, random).unwrap_or(1));
     let powers = (1..32).map(|power| factor.saturating_pow(power));

@@ -1,5 +1,5 @@
-//! A polynomial as text: "each nonzero term as coefficient*x^i in plain
-//! decimals, highest first, joined by +, with nothing shortened".
+//! A polynomial as text: "each nonzero term as coefficient*x^i in plain decimals, highest first, joined by +, with
+//! nothing shortened".
 
 use crate::polynomial::Polynomial;
 

@@ -1,6 +1,5 @@
-//! All complete chains of a tiny size, by going through all lists of parts that
-//! are compositions of nothing. Nothing is split here, and no list of degrees is
-//! made beforehand: a chain is a part after a chain.
+//! All complete chains of a tiny size, by going through all lists of parts that are compositions of nothing. Nothing
+//! is split here, and no list of degrees is made beforehand: a chain is a part after a chain.
 
 use super::{all, composed, Size};
 use crate::decomposition::part_degrees;
@@ -14,19 +13,8 @@ use std::sync::OnceLock;
 pub const EVERY: &[Size] = &[(3, 4), (5, 4), (7, 4), (9, 4), (5, 6), (3, 8), (2, 9)];
 
 /// Those of which every composition is.
-pub const COMPOSED: &[Size] = &[
-    (11, 4),
-    (15, 4),
-    (7, 6),
-    (5, 8),
-    (4, 9),
-    (3, 10),
-    (2, 15),
-    (2, 21),
-    (2, 25),
-    (2, 27),
-    (2, 35),
-];
+pub const COMPOSED: &[Size] =
+    &[(11, 4), (15, 4), (7, 6), (5, 8), (4, 9), (3, 10), (2, 15), (2, 21), (2, 25), (2, 27), (2, 35)];
 
 /// Those of which every f that has several chains is: at degree 12 also three.
 pub const SEVERAL: &[Size] = &[(11, 6), (5, 12), (3, 14), (4, 15), (2, 33)];
@@ -78,7 +66,7 @@ fn made(size: Size) -> Table {
     let listed = match SEVERAL.contains(&size) {
         true => {
             let several = chains.iter().filter(|(_, list)| list.len() > 1);
-            several.map(|(whole, _)| whole.clone()).collect()
+            several.map(|(whole, _)| whole.clone()).collect::<BTreeSet<_>>()
         }
         false => {
             let all = compositions(size);
@@ -87,10 +75,7 @@ fn made(size: Size) -> Table {
             all
         }
     };
-    Table {
-        listed: listed.into_iter().collect(),
-        chains,
-    }
+    Table { listed: listed.into_iter().collect(), chains }
 }
 
 /// The degrees of the parts.
@@ -119,13 +104,9 @@ fn no_compositions(size: Size) -> impl Iterator<Item = Polynomial> {
     all(size).filter(move |f| !compositions.contains(f.used()))
 }
 
-/// Every chain of two parts or more whose leftmost part is such a one, with what
-/// it composes to: a part after a chain of normal parts.
-fn of_several_parts(
-    (m, n): Size,
-    leftmost: fn(&Polynomial) -> bool,
-    each: &mut dyn FnMut(Chain, Coefficients),
-) {
+/// Every chain of two parts or more whose leftmost part is such a one, with what it composes to: a part after a chain
+/// of normal parts.
+fn of_several_parts((m, n): Size, leftmost: fn(&Polynomial) -> bool, each: &mut dyn FnMut(Chain, Coefficients)) {
     for s in part_degrees(n) {
         let left: Parts = no_compositions((m, n / s)).filter(leftmost).collect();
         for (chain, right) in normal_chains((m, s)) {

@@ -9,21 +9,9 @@ use std::collections::HashMap;
 use std::sync::OnceLock;
 
 /// The sizes whose forced pairs are known.
+#[rustfmt::skip]
 pub const FORCED: &[Size] = &[
-    (3, 4),
-    (5, 4),
-    (7, 4),
-    (9, 4),
-    (2, 6),
-    (3, 6),
-    (4, 6),
-    (5, 6),
-    (3, 8),
-    (2, 9),
-    (2, 10),
-    (2, 12),
-    (2, 14),
-    (2, 15),
+    (3, 4), (5, 4), (7, 4), (9, 4), (2, 6), (3, 6), (4, 6), (5, 6), (3, 8), (2, 9), (2, 10), (2, 12), (2, 14), (2, 15),
 ];
 
 /// The left degrees that fit and have an inverse.
@@ -44,8 +32,8 @@ pub fn composed(f: &Polynomial, r: usize, m: Modulus) -> &'static Polynomial {
     found.expect("there are as many pairs as there is to force them")
 }
 
-/// The leading terms, from x^n down to x^(n-s+1), which h^r alone reaches, force h;
-/// the coefficients of all x^(is) then force g.
+/// The leading terms, from x^n down to x^(n-s+1), which h^r alone reaches, force h; the coefficients of all x^(is)
+/// then force g.
 fn forcing(f: &Polynomial, size: Size, r: usize) -> Forcing {
     let n = size.1;
     let s = n / r;

@@ -1,34 +1,38 @@
-//! Short texts by request No. 6's sentence alone, in every way in which they can
-//! be cut into a sum of products of factors: each stretch of the text is tried
-//! as each of these, cut at each of its places. So it is seen too that "each
-//! text has one meaning".
+//! Short texts by request No. 6's sentence alone, in every way in which they can be cut into a sum of products of
+//! factors: each stretch of the text is tried as each of these, cut at each of its places. So it is seen too that
+//! "each text has one meaning".
 
-use crate::answer::One;
+use crate::answer::Answer;
+use crate::asked::Asked;
+use crate::desk::LIMIT;
 use crate::modulus::Modulus;
-use crate::polynomial::{Polynomial, TOP_DEGREE};
+use crate::operation::Operation;
+use crate::polynomial::Polynomial;
 use crate::refused::{Refused, FIRST};
 use crate::residue::{add, reduced, subtract};
 use crate::series::product;
 use crate::text::kinds::most_at_once;
-use crate::text::{Typed, MISSPELT, MOST_DIGITS, MOST_OPEN, TOO_DEEP, TOO_HIGH};
+use crate::text::{MISSPELT, MOST_DIGITS, MOST_OPEN, TOO_DEEP, TOO_HIGH};
 
 /// The answer to the reader, for a text of few bytes or none.
-pub fn read(typed: &Typed) -> One {
-    let Typed { m, text } = typed;
+pub fn read(asked: &Asked) -> Answer {
+    let found = polynomial(asked.m, &asked.bytes);
+    found.map_or_else(|refused| Operation::ReadText.refused(refused, asked), Answer::one)
+}
+
+fn polynomial(m: Modulus, text: &[u8]) -> Result<Polynomial, Refused> {
     if !m.taken() {
-        return One::refused_with(Refused::plain(1));
+        return Err(Refused::plain(1));
     }
     let cuts = Cuts::of(text);
     if let Some(refused) = cuts.first_fault() {
-        return One::refused_with(refused);
+        return Err(refused);
     }
-    let Ok(value) = cuts.sum_value(0, text.len(), *m) else {
-        return One::refused_with(TOO_HIGH);
-    };
+    let value = cuts.sum_value(0, text.len(), m).map_err(|_| TOO_HIGH)?;
     let f = Polynomial::of(&value);
-    match f.refusals_due(*m, FIRST).first() {
-        Some(&refused) => One::refused_with(refused),
-        None => One::answered(f),
+    match f.refusals_due(m, FIRST).first() {
+        Some(&refused) => Err(refused),
+        None => Ok(f),
     }
 }
 
@@ -46,13 +50,7 @@ struct Cuts<'a> {
 impl Cuts<'_> {
     fn of(text: &[u8]) -> Cuts<'_> {
         let none = || vec![vec![0; text.len() + 1]; text.len() + 1];
-        let mut cuts = Cuts {
-            text,
-            bases: none(),
-            factors: none(),
-            products: none(),
-            sums: none(),
-        };
+        let mut cuts = Cuts { text, bases: none(), factors: none(), products: none(), sums: none() };
         // Shorter stretches first: longer ones are made of them.
         for length in 1..=text.len() {
             for from in 0..=text.len() - length {
@@ -102,12 +100,7 @@ impl Cuts<'_> {
     }
 
     /// Where one of these bytes stands.
-    fn places<'a>(
-        &'a self,
-        from: usize,
-        to: usize,
-        bytes: &'a [u8],
-    ) -> impl Iterator<Item = usize> + 'a {
+    fn places<'a>(&'a self, from: usize, to: usize, bytes: &'a [u8]) -> impl Iterator<Item = usize> + 'a {
         (from..to).filter(|&at| bytes.contains(&self.text[at]))
     }
 
@@ -127,8 +120,7 @@ impl Cuts<'_> {
         }
     }
 
-    /// Whether the first bytes can begin a text with no more brackets open than
-    /// that.
+    /// Whether the first bytes can begin a text with no more brackets open than that.
     fn begins(&self, to: usize, most_open: usize) -> bool {
         most_at_once(&self.text[..to]) <= most_open && self.begins_sum(0, to)
     }
@@ -142,16 +134,12 @@ impl Cuts<'_> {
 
     fn begins_product(&self, from: usize, to: usize) -> bool {
         let mut stars = self.places(from, to, b"*");
-        self.begins_factor(from, to)
-            || stars.any(|at| self.products[from][at] > 0 && self.begins_factor(at + 1, to))
+        self.begins_factor(from, to) || stars.any(|at| self.products[from][at] > 0 && self.begins_factor(at + 1, to))
     }
 
     fn begins_factor(&self, from: usize, to: usize) -> bool {
         let begins_power = |at: usize| at + 1 == to || is_power(&self.text[at + 1..to]);
-        self.begins_base(from, to)
-            || self
-                .places(from, to, b"^")
-                .any(|at| self.bases[from][at] > 0 && begins_power(at))
+        self.begins_base(from, to) || self.places(from, to, b"^").any(|at| self.bases[from][at] > 0 && begins_power(at))
     }
 
     fn begins_base(&self, from: usize, to: usize) -> bool {
@@ -218,11 +206,11 @@ impl Cuts<'_> {
 struct TooHigh;
 type Value = Result<Vec<u32>, TooHigh>;
 
-/// Without zeros at the end, where nothing is above x^126.
+/// Without zeros at the end, where nothing is above the limit.
 fn within(mut coefficients: Vec<u32>) -> Value {
     let used = coefficients.iter().rposition(|&c| c != 0);
     coefficients.truncate(used.map_or(0, |n| n + 1));
-    match coefficients.len() > TOP_DEGREE + 1 {
+    match coefficients.len() > LIMIT + 1 {
         true => Err(TooHigh),
         false => Ok(coefficients),
     }
@@ -238,7 +226,7 @@ fn is_number(bytes: &[u8]) -> bool {
 }
 
 fn is_power(bytes: &[u8]) -> bool {
-    is_number(bytes) && number(bytes) <= TOP_DEGREE as u128
+    is_number(bytes) && number(bytes) <= LIMIT as u128
 }
 
 fn number(digits: &[u8]) -> u128 {
