@@ -1,13 +1,13 @@
 -- How much of its input a program reads, and where the bytes of a read go.
 --
---   most-listed           how many records are read at the most
---   most-read             their bytes
---   number-after taken    the number of the record that is next, or begun, after `taken` bytes
---   Room taken bytes r    r bytes may be read into a buffer of so many bytes, after `taken`
---   Brings taken room got how many bytes a read into a buffer of `room` bytes may bring
---   Came taken xs ys got  what a read into the buffer xs may come to, which is ys afterwards
---   upto kept more        how many bytes are listed where `more` have come after `kept`
---   to-front xs from n    xs after its n elements from index `from` on were put at the front
+--   most-listed             how many records are read at the most
+--   most-read               their bytes
+--   number-after taken      the number of the record that is next, or begun, after `taken` bytes
+--   MayRead taken bytes r   r bytes may be read into a buffer of so many bytes, after `taken`
+--   Brings taken room got   how many bytes a read into a buffer of `room` bytes may bring
+--   Came taken xs ys got    what a read into the buffer xs may come to, which is ys afterwards
+--   upto kept more          how many bytes are listed where `more` have come after `kept`
+--   to-front xs from n      xs after its n elements from index `from` on were put at the front
 use mathlib.Core.Path.{_≡_}
 use mathlib.Core.Bool.{cond}
 use mathlib.Core.List.{List, _++_}
@@ -31,7 +31,7 @@ unfoldable pub number-after : ℕ → ℕ
 number-after taken = taken / record-bytes + 1
 
 -- they have room behind the bytes of the record that is begun, and none of them lies past the last record that is read
-pub record Room (taken bytes r : ℕ) : Type 0 where
+pub record MayRead (taken bytes r : ℕ) : Type 0 where
   pub some : 0 < r
   pub behind : taken % record-bytes + r ≤ bytes
   pub listed : taken + r ≤ most-read

@@ -3,7 +3,7 @@ ghost use mathlib.Core.Path.{_≡_};
 ghost use Prim.Native.Nat.{_+_, _<_, _≤_};
 ghost use lib.ListN.{length};
 ghost use Rattle.record.specs.Record.{record-bytes};
-ghost use Rattle.reading.specs.Reading.{most-read, Room, Came, number-after, upto, to-front};
+ghost use Rattle.reading.specs.Reading.{most-read, MayRead, Came, number-after, upto, to-front};
 use libc::STDERR_FILENO;
 use libc::STDIN_FILENO;
 use libc::STDOUT_FILENO;
@@ -39,7 +39,7 @@ pub fn number(taken: usize) -> u32
 // room for, and none past the last record that is read.
 fn room(taken: usize, bytes: usize) -> usize
     requires { ⌜ (taken < most-read) × (record-bytes ≤ bytes) ⌝ }
-    ensures { λ r. ⌜ Room taken bytes r ⌝ }
+    ensures { λ r. ⌜ MayRead taken bytes r ⌝ }
 {
     let left = LAST - taken;
     let free = bytes - taken % record::BYTES;
