@@ -10,12 +10,10 @@ mod change;
 mod compose;
 #[path = "../../rust/desk.rs"]
 mod desk;
-mod halves;
 mod listing;
 mod modulus;
 mod plain;
 mod quick;
-mod report;
 mod residue;
 mod root;
 mod split;
@@ -43,6 +41,5 @@ fn beside_plain() {
     change::run();
     chains::run();
     text::run();
-    quick::from_the_top();
     listing::run();
 }

@@ -2,11 +2,8 @@
 
 use crate::binomial::{row_for, start};
 use crate::desk::{Polynomial, TERMS};
-use crate::halves::{half, Powers};
 use crate::modulus::{invert, modulus, multiply, two_products, Below, Modulus, Words};
-use crate::report::report;
 use crate::root::Root;
-use std::ops::Range;
 
 pub fn degree(f: &[u32]) -> usize {
     f.iter().rposition(|&c| c != 0).unwrap_or(0)
@@ -20,41 +17,84 @@ pub fn step<M: Modulus>(p: &mut [u32], c: u32, h: &[u32], s: usize, d: usize, m:
     p[0] = two_products(h[0], p[0], c, 1, m);
 }
 
-/// The division of p by h, of degree s, in place, goes on over some places, from the top down; those above them have been divided.
-pub fn divide_on<M: Modulus>(p: &mut [u32], places: Range<usize>, h: &[u32], s: usize, m: M) {
-    for i in places.rev() {
+/// p divided by h, of degree s, in place: the remainder, and the quotient above it.
+fn divide<M: Modulus>(p: &mut [u32], h: &[u32], s: usize, m: M) {
+    let mut i = p.len();
+    while i != 0 {
         let k = i + s;
-        let lo = (k + 1).saturating_sub(p.len());
-        let x = m.inner_product(h, p, k, lo, s.min(i + 1));
+        i -= 1;
+        let lo = k - k.min(p.len());
+        let x = m.inner_product(h, p, i + s, lo, s.min(i + 1));
         p[i] = m.subtract(p[i], x);
     }
 }
 
-/// p divided by h, of degree s, in place: the remainder, and the quotient above it.
-pub fn divide<M: Modulus>(p: &mut [u32], h: &[u32], s: usize, m: M) {
-    divide_on(p, 0..p.len(), h, s, m);
+fn is_constant(p: &[u32]) -> bool {
+    p[1..].iter().all(|&c| c == 0)
 }
 
-/// All digits of p, of degree r * s, in powers of h; whether they are constants. The lowest is taken by itself, since most
-/// polynomials that are no g(h) show it there; then half(r) at once, from the bottom, told apart by halves.
-fn expand<M: Modulus>(p: &mut [u32], h: &Polynomial, r: usize, s: usize, m: M) -> bool {
+fn digit<M: Modulus>(p: &mut [u32], h: &[u32], s: usize, m: M) -> bool {
     divide(p, h, s, m);
-    let (digit, mut rest) = p.split_at_mut(s);
-    if degree(digit) != 0 {
-        return false;
-    }
-    let j = half(r);
-    let w = j * s;
-    let powers = Powers::up_to(j, h, s, m);
-    while w < rest.len() {
-        divide(rest, powers.get(j), w, m);
-        let (block, above) = rest.split_at_mut(w);
-        if powers.halves(block, j, m) != 0 {
+    is_constant(&p[..s])
+}
+
+fn digits<M: Modulus>(p: &mut [u32], h: &[u32], s: usize, m: M) -> bool {
+    let mut at = 0;
+    while s < p.len() - at {
+        if !digit(&mut p[at..], h, s, m) {
             return false;
         }
-        rest = above;
+        at += s;
     }
-    powers.halves(rest, j, m) == 0
+    is_constant(&p[at..])
+}
+
+/// The lowest k digits of p at once, by b = h^k.
+fn block<M: Modulus>(p: &mut [u32], h: &[u32], b: &[u32], k: usize, s: usize, m: M) -> bool {
+    let w = k * s;
+    divide(p, b, w, m);
+    let top = w - s;
+    is_constant(&p[top..w]) && digits(&mut p[..top + 1], h, s, m)
+}
+
+fn blocks<M: Modulus>(p: &mut [u32], h: &[u32], b: &[u32], k: usize, s: usize, m: M) -> bool {
+    let w = k * s;
+    let mut at = 0;
+    while w < p.len() - at {
+        if !block(&mut p[at..], h, b, k, s, m) {
+            return false;
+        }
+        at += w;
+    }
+    digits(&mut p[at..], h, s, m)
+}
+
+/// b, which is h, becomes h^k.
+fn raise<M: Modulus>(b: &mut [u32], h: &[u32], k: usize, s: usize, m: M) {
+    for i in 1..k {
+        step(b, 0, h, s, (i + 1) * s, m);
+    }
+}
+
+/// How many of r digits are taken at once.
+fn at_once(r: usize) -> usize {
+    match r {
+        0..5 => 1,
+        5..12 => 2,
+        12..32 => 3,
+        _ => 5,
+    }
+}
+
+/// All digits of p, of degree r * s, in powers of h; whether they are constants.
+fn expand<M: Modulus>(p: &mut [u32], h: &Polynomial, r: usize, s: usize, m: M) -> bool {
+    if !digit(p, h, s, m) {
+        return false;
+    }
+    let k = at_once(r);
+    let mut b = *h;
+    raise(&mut b, h, k, s, m);
+    blocks(&mut p[s..], h, &b, k, s, m)
 }
 
 fn constants(a: &[u32], r: usize, s: usize) -> Polynomial {
@@ -135,6 +175,29 @@ pub fn split(m: u32, f: &Polynomial, r: usize) -> Option<(Polynomial, Polynomial
     }
 }
 
+/// All digits of p, constants or not, one by one.
+fn each_digit<M: Modulus>(p: &mut [u32], h: &[u32], s: usize, m: M) {
+    let mut at = 0;
+    while s < p.len() - at {
+        divide(&mut p[at..], h, s, m);
+        at += s;
+    }
+}
+
+/// All digits of p, of degree r * s, in powers of h, constants or not, some at once: none ends it early.
+fn all_digits<M: Modulus>(p: &mut [u32], h: &Polynomial, r: usize, s: usize, m: M) {
+    let k = at_once(r);
+    let mut b = *h;
+    raise(&mut b, h, k, s, m);
+    let (w, mut at) = (k * s, 0);
+    while w < p.len() - at {
+        divide(&mut p[at..], &b, w, m);
+        each_digit(&mut p[at..at + w], h, s, m);
+        at += w;
+    }
+    each_digit(&mut p[at..], h, s, m);
+}
+
 /// The highest power at which f and its composed forced pair differ, or 0. Where the root of f says no, it is that of the root's
 /// place; else that of the highest digit which is no constant: the digits above it are the left part's coefficients.
 fn difference<M: Modulus>(f: &Polynomial, [n, r, s]: [usize; 3], u: u32, row: &[u64], m: M) -> usize {
@@ -142,7 +205,11 @@ fn difference<M: Modulus>(f: &Polynomial, [n, r, s]: [usize; 3], u: u32, row: &[
     if !root.find(f, [n, r, s], u, row, m) {
         return n - s - 1;
     }
-    report(f, &root.right_part(s), [n, r, s], m)
+    let mut a = *f;
+    all_digits(&mut a[..n + 1], &root.right_part(s), r, s, m);
+    let mut degrees = a[..n].chunks(s).map(degree).enumerate().rev();
+    let highest = degrees.find(|&(_, d)| d != 0);
+    highest.map_or(0, |(i, d)| i * s + d)
 }
 
 /// The quick answer: 1 for a pair or 0, and the highest power that differs. Nothing if it is refused.

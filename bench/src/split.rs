@@ -96,16 +96,15 @@ pub fn inputs() -> Vec<Input> {
     all
 }
 
-/// The same sum over what plain Rust answers.
-pub fn plain(input: &Input) -> u64 {
-    match split(input.m, black_box(&input.f), input.r) {
-        Some((g, h)) => sum(&g, &h),
-        None => 0,
-    }
-}
-
 pub fn run() {
     for input in inputs() {
-        beside(&input.label("split"), 20, &mut |_| input.split(desk_split), &mut |_| plain(&input));
+        beside(&input.label("split"), 20, &mut |_| input.split(desk_split), &mut |_| match split(
+            input.m,
+            black_box(&input.f),
+            input.r,
+        ) {
+            Some((g, h)) => sum(&g, &h),
+            None => 0,
+        });
     }
 }

@@ -26,27 +26,6 @@ pub fn row(label: &str, values: &[f64], decimals: usize) {
     println!();
 }
 
-/// The line above a table of many columns, which has only one side's numbers.
-pub fn wide_head(title: &str, columns: &[String]) {
-    print!("{title:<42}");
-    for column in columns {
-        print!("{column:>10}");
-    }
-    println!();
-}
-
-/// The line of such a table; a dash where nothing was to be measured.
-pub fn wide_row(label: &str, values: &[Option<f64>], decimals: usize) {
-    print!("{label:<42}");
-    for value in values {
-        match value {
-            Some(value) => print!("{value:>10.decimals$}"),
-            None => print!("{:>10}", "-"),
-        }
-    }
-    println!();
-}
-
 /// Nanoseconds a call in one short run.
 fn run(calls: usize, f: &mut dyn FnMut(usize) -> u64) -> f64 {
     let start = Instant::now();
@@ -77,19 +56,9 @@ pub fn by_turns(label: &str, runs: usize, calls: usize, sides: &mut [&mut dyn Fn
     least
 }
 
-/// Both times.
-pub fn both(
-    label: &str,
-    calls: usize,
-    desk: &mut dyn FnMut(usize) -> u64,
-    plain: &mut dyn FnMut(usize) -> u64,
-) -> Vec<f64> {
-    by_turns(label, RUNS, calls, &mut [desk, plain])
-}
-
 /// Prints both times and their ratio.
 pub fn beside(label: &str, calls: usize, desk: &mut dyn FnMut(usize) -> u64, plain: &mut dyn FnMut(usize) -> u64) {
-    row(label, &both(label, calls, desk, plain), 1);
+    row(label, &by_turns(label, RUNS, calls, &mut [desk, plain]), 1);
 }
 
 /// How a label ends: the rows at 2^31 - 1 do not name their modulus.

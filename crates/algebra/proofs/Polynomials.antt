@@ -39,8 +39,8 @@ module _ (R : Ring) where
   unknown : (x : El) → eval R (0 ∷ 1 ∷ []) x ≡ x
   unknown x = simp (eval_cons, eval_nil, nat_zero, nat_one, ring)
 
-  scaled-twice : (a b : ℕ) (p : List ℕ) (x : El) → eval R (scaled a (scaled b p)) x ≡ eval R (scaled (a * b) p) x
-  scaled-twice a b p x = simp (eval-scaled, nat_mul, ring)
+  scaled_twice : (a b : ℕ) (p : List ℕ) (x : El) → eval R (scaled a (scaled b p)) x ≡ eval R (scaled (a * b) p) x
+  scaled_twice a b p x = simp (eval-scaled, nat_mul, ring)
 
   eval-one : (x : El) → eval R (1 ∷ []) x ≡ 𝟙
   eval-one x = simp (eval_cons, eval_nil, nat_one, ring)
@@ -184,7 +184,7 @@ module _ (m : ℕ) (pos : 0 < m) where
   after-scaled c f h = equal→same m pos (simp (eval-scaled Q, eval-after Q))
 
   pub scaled-scaled : (a b : ℕ) (p : List ℕ) → Same m (scaled a (scaled b p)) (scaled (a * b) p)
-  scaled-scaled a b p = equal→same m pos (scaled-twice Q a b p _)
+  scaled-scaled a b p = equal→same m pos (scaled_twice Q a b p _)
 
   pub scaled-plus : (a : ℕ) (p q : List ℕ) → Same m (scaled a (plus p q)) (plus (scaled a p) (scaled a q))
   scaled-plus a p q = equal→same m pos (simp (eval-scaled Q, eval-plus Q) (A.mul-add Q _ _ _))

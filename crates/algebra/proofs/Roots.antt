@@ -100,8 +100,8 @@ module _ (m : ℕ) (pos : 0 < m) where
       → (i : ℕ) → q * s < i → coef (power (after (c ∷ 1 ∷ []) h) (suc (suc q))) i % m ≡ coef f i % m
   same-top {q} {g = g} {h = h} c sp p e i l = (line-power c (suc (suc q)) h).at i ∙ after_agree m pos q (power (c ∷ 1 ∷ []) (suc (suc q))) g sp p.right (same_left c p.left e) i l ∙ sym (p.whole.at i)
 
-  twice-raised-monic : {s : ℕ} {k : List ℕ} → Monic m s k → Monic m (s + 2) (0 ∷ 0 ∷ k)
-  twice-raised-monic {s} {k} mk = record { top = ap (λ (i : ℕ). coef (0 ∷ 0 ∷ k) i % m) two ∙ mk.top; above = far }
+  twice_raised-monic : {s : ℕ} {k : List ℕ} → Monic m s k → Monic m (s + 2) (0 ∷ 0 ∷ k)
+  twice_raised-monic {s} {k} mk = record { top = ap (λ (i : ℕ). coef (0 ∷ 0 ∷ k) i % m) two ∙ mk.top; above = far }
     where
       two : s + 2 ≡ suc (suc s)
       two = omega arith
@@ -142,7 +142,7 @@ module _ (m : ℕ) (pos : 0 < m) where
       monic_k = let w : 1 * s ≡ s = N.one-mul s in rw w at (after-monic m pos (omega arith) (line-monic d) p.right)
 
       monic_K : Monic m (s + 2) K
-      monic_K = twice-raised-monic monic_k
+      monic_K = twice_raised-monic monic_k
 
       whole : Pair m (after (monomial r) K) r (s + 2) (monomial r) K
       whole = record { left = monomial_monic m r; right = monic_K; whole = same_refl _ }

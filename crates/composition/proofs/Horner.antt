@@ -32,18 +32,18 @@ use Rattle.polynomial.proofs.Filling.{zeros}
 use Rattle.composition.specs.Composition.{composition, Ends, Composable, Room}
 
 -- above x^s the coefficients of h are 0, so that the sum ends there
-pub product-place : {s : ℕ} (h : List ℕ) → ((k : ℕ) → s < k → coef h k ≡ 0) → (p : List ℕ) (k : ℕ) → inner h p k 0 (min k s + 1) ≡ coef (times h p) k
+pub product-place : {s : ℕ} {h : List ℕ} → Ends s h → (p : List ℕ) (k : ℕ) → inner h p k 0 (min k s + 1) ≡ coef (times h p) k
 unfolding inner
-product-place {s} h past p k =
+product-place {s} {h} e p k =
     sum_ext (min k s + 1) _ _ (λ i l. rw (N.zero-add i))
-    ∙ sym (coef-times h p k ∙ sum_clip (min k s + 1) (suc k) _ (omega arith) (λ i l b. ap (λ (x : ℕ). x * coef p (k - i)) (past i (omega arith)) ∙ N.zero-mul _))
+    ∙ sym (coef-times h p k ∙ sum_clip (min k s + 1) (suc k) _ (omega arith) (λ i l b. ap (λ (x : ℕ). x * coef p (k - i)) (e.past i (omega arith)) ∙ N.zero-mul _))
 
 -- where p ends early enough, h·p has nothing above x^d
-pub product-past : {s d : ℕ} (h p : List ℕ) → ((k : ℕ) → s < k → coef h k ≡ 0) → ((k : ℕ) → d < k + s → coef p k ≡ 0) → (k : ℕ) → d < k → coef (times h p) k ≡ 0
-product-past {s} {d} h p past z k l = coef-times h p k ∙ sum_zeros (suc k) _ (λ i b. go i b (dec_lt s i))
+product-past : {s d : ℕ} {h : List ℕ} (p : List ℕ) → Ends s h → ((k : ℕ) → d < k + s → coef p k ≡ 0) → (k : ℕ) → d < k → coef (times h p) k ≡ 0
+product-past {s} {d} {h} p e z k l = coef-times h p k ∙ sum_zeros (suc k) _ (λ i b. go i b (dec_lt s i))
   where
     go : (i : ℕ) → i < suc k → Dec (s < i) → coef h i * coef p (k - i) ≡ 0
-    go i b (yes c) = rw (past i c) (N.zero-mul _)
+    go i b (yes c) = rw (e.past i c) (N.zero-mul _)
     go i b (no c) = rw (z (k - i) (omega arith)) (N.mul-zero _)
 
 module _ (m c : ℕ) {s d : ℕ} {h p : List ℕ} (room : Room s d h p) where
@@ -60,7 +60,7 @@ module _ (m c : ℕ) {s d : ℕ} {h p : List ℕ} (room : Room s d h p) where
   step_next zero l q e still is = absurd (N.not-suc-le-zero q)
   step_next (suc k) {n} l q e still is =
       is ∙ ap (λ (y : ℕ). y % m) (inner_extensional h h l p (suc k) 0 n (λ i a b. refl) (λ i a b. still (suc k - i) (omega arith))
-      ∙ ap (inner h p (suc k) 0) e ∙ product-place h room.right.past p (suc k) ∙ sym (coef-plus (c ∷ []) (times h p) (suc k) ∙ N.zero-add _))
+      ∙ ap (inner h p (suc k) 0) e ∙ product-place room.right p (suc k) ∙ sym (coef-plus (c ∷ []) (times h p) (suc k) ∙ N.zero-add _))
 
   -- where h is a line, by two products
   pub step_line : (k : ℕ) {x : ℕ} (l : List ℕ) → s ≡ 1 → 0 < k → ((j : ℕ) → j ≤ k → coef l j ≡ coef p j) → x ≡ (coef h 0 * coef l k + coef h 1 * coef l (k - 1)) % m → x ≡ step k
@@ -72,7 +72,7 @@ module _ (m c : ℕ) {s d : ℕ} {h p : List ℕ} (room : Room s d h p) where
   -- nothing above x^d
   pub step_past : (k : ℕ) → d < k → step k ≡ 0
   step_past zero l = absurd (N.not-suc-le-zero l)
-  step_past (suc k) l = ap (λ (y : ℕ). y % m) (coef-plus (c ∷ []) (times h p) (suc k) ∙ N.zero-add _ ∙ product-past h p room.right.past room.past (suc k) l) ∙ N.zero-mod m
+  step_past (suc k) l = ap (λ (y : ℕ). y % m) (coef-plus (c ∷ []) (times h p) (suc k) ∙ N.zero-add _ ∙ product-past p room.right room.past (suc k) l) ∙ N.zero-mod m
 
 -- x + h·p, where p ends one s earlier
 module _ {s : ℕ} {h : List ℕ} (e : Ends s h) (x w : ℕ) (p : List ℕ) (none : w ≡ 0 → x ≡ 0) (rest : (k : ℕ) → (w - 1) * s < k + s → coef p k ≡ 0) where
@@ -86,7 +86,7 @@ module _ {s : ℕ} {h : List ℕ} (e : Ends s h) (x w : ℕ) (p : List ℕ) (non
       (λ (l : (w - 1) * s + s ≡ w * s). absurd (omega arith))
       (λ (l : (w ≡ 0) × ((w - 1) * s ≡ 0)). coef-plus (x ∷ []) (times h p) 0 ∙ rw (none l.0, coef-times_zero h p, rest 0 (omega arith)) (N.zero-add _ ∙ N.mul-zero (coef h 0)))
       (last w)
-  sum_past (suc k) q = coef-plus (x ∷ []) (times h p) (suc k) ∙ N.zero-add _ ∙ product-past h p e.past rest (suc k) (⊎_elim
+  sum_past (suc k) q = coef-plus (x ∷ []) (times h p) (suc k) ∙ N.zero-add _ ∙ product-past p e rest (suc k) (⊎_elim
       (λ (l : (w - 1) * s + s ≡ w * s). omega arith)
       (λ (l : (w ≡ 0) × ((w - 1) * s ≡ 0)). omega arith)
       (last w))

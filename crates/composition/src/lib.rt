@@ -21,8 +21,8 @@ fn line_step(p: &mut [u32], c: u32, h: &[u32], d: usize, m: Divisor)
     p[0] = inner::two_products(h[0], p[0], c, 1, m);
 }
 
-// One step: p becomes c + h·p, of a degree up to d.
-fn step(p: &mut [u32], c: u32, h: &[u32], s: usize, d: usize, m: Divisor)
+// One step: p becomes c + h·p, of a degree up to d. With c = 0 it is one power of h more, for the left part.
+pub fn step(p: &mut [u32], c: u32, h: &[u32], s: usize, d: usize, m: Divisor)
     requires { Ready m × Room s d h.now p.old }
     ensures { p.new ≡ reduced m.number (plus (c ∷ []) (times h.now p.old)) }
 {

@@ -1,3 +1,4 @@
 pub mod Pieces
 pub mod Dividing
+pub mod Raising
 pub mod Asked

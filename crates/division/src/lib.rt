@@ -1,20 +1,20 @@
-// Division by h with remainder (document 001, 3.1; true remainders, since its r_i = q_i(0) wants h(0) = 0), in place. The left part
-// and the report take a polynomial's digits in powers of h by it.
-ghost use Rattle.std.specs.Prelude.{◌≡◌, ◌≤◌, length};
+// Division by h with remainder (document 001, 3.1; true remainders, since its r_i = q_i(0) wants h(0) = 0), in place, and h^k for
+// divisions that take k digits at once. The left part and the report take a polynomial's digits in powers of h by it.
+ghost use Rattle.std.specs.Prelude.{◌≡◌, ◌*◌, ◌≤◌, ◌<◌, length};
+ghost use Rattle.algebra.specs.Polynomial.{limit, Held};
 ghost use Rattle.reciprocal.specs.Ready.{Ready};
-ghost use Rattle.division.specs.Division.{DivisionAsked, Continued, Divided};
+ghost use Rattle.division.specs.Division.{DivisionAsked, Divided, Raised, ConstantIs};
 
 use reciprocal::Divisor;
 
-// The division of p by h, of degree s, in place, goes on from the place `from` down to the place low: places from s on become the
-// quotient, those below them the remainder. From the top down, each place loses what the quotient's places above it, times h without
-// its leading 1, give there. So what lies below low need not be known yet.
-pub fn divide_on(p: &mut [u32], h: &[u32], s: usize, from: usize, low: usize, m: Divisor)
-    requires { DivisionAsked m.number s h.now p.old × (s ≤ length p.old) × (low ≤ from) × (from ≤ length p.old) × Ready m }
-    ensures { Continued m.number h.now s from low p.old p.new }
+// p divided by h, of degree s, in place: its lowest s places become the remainder, those above them the quotient. From the top
+// down, each place loses what the quotient's places above it, times h without its leading 1, give there.
+pub fn divide(p: &mut [u32], h: &[u32], s: usize, m: Divisor)
+    requires { DivisionAsked m.number s h.now p.old × (s ≤ length p.old) × Ready m }
+    ensures { Divided m.number h.now s p.old p.new }
 {
-    let mut i = from;
-    while low < i {
+    let mut i = p.len();
+    while 0 < i {
         let end = i + s;
         let lo = end - polynomial::smaller(end, p.len());
         let hi = polynomial::smaller(s, i);
@@ -24,11 +24,44 @@ pub fn divide_on(p: &mut [u32], h: &[u32], s: usize, from: usize, low: usize, m:
     }
 }
 
-// p divided by h, of degree s, in place: its lowest s places become the remainder, those above them the quotient.
-pub fn divide(p: &mut [u32], h: &[u32], s: usize, m: Divisor)
-    requires { DivisionAsked m.number s h.now p.old × (s ≤ length p.old) × Ready m }
-    ensures { Divided m.number h.now s p.old p.new }
+// Whether p is a constant.
+pub fn is_constant(p: &[u32]) -> bool
+    ensures { ConstantIs p.now result }
 {
-    let n = p.len();
-    divide_on(p, h, s, n, 0, m);
+    let mut i = 1;
+    while i < p.len() {
+        if p[i] != 0 {
+            return false;
+        }
+        i += 1;
+    }
+    true
+}
+
+// b, which is h, becomes h^k.
+pub fn raise(b: &mut [u32], h: &[u32], k: usize, s: usize, m: Divisor)
+    requires { Ready m × Held m.number s h.now × (b.old ≡ h.now) × (0 < k) × (k * s ≤ limit) }
+    ensures { Raised m.number h.now s k b.new }
+{
+    for i in 1..k {
+        composition::step(b, 0, h, s, (i + 1) * s, m);
+    }
+}
+
+// How many of r digits are taken at once: many make h^k longer, few make more divisions that wait for each other. The steps are
+// measured ones (bench/README.md).
+pub fn at_once(r: usize) -> usize
+    requires { 0 < r }
+    ensures { (0 < result) × (result ≤ r) }
+{
+    if r < 5 {
+        return 1;
+    }
+    if r < 12 {
+        return 2;
+    }
+    if r < 32 {
+        return 3;
+    }
+    5
 }

@@ -1,120 +1,170 @@
 -- Digits in powers of h, from the lowest on.
 --
---   inside-none                                  what differs inside a digit from some g(h), and not above it, is no g(h)
---   told-digits                                  what is told of p from the top, as digits
+--   flat_digits                                  what is shorter than h is one digit
 --   lowest_digits                                a division by h^k, and the k digits of its remainder
+--   top_flat, lowest_top                         whose highest is a constant, or none
 --   lowest_digit, lowest_no                      a division by h, and one digit; a digit that is no constant
 --   Reached m h s p₀ at p                        the digits of p₀ below place `at` are found, and above it p has the quotient
 --   reached-none, reached-first, reached-more    before the first digit, after it, and k digits further
 --   reached-no, reached_last                     and then one that is no constant, or all digits of the quotient
---   reached_asked                                a quotient may be divided again
 --   digits_long                                  where there is a quotient beside the first digit
---   powers_fit, powers_divide                    there is room for the powers of h, and they may divide
---   held_cut, digits-held                        h without the zeros above it, and its digits
+--   reached_asked                                a quotient may be divided again
 use mathlib.Core.Path.{◌≡◌, refl, sym, ap, ◌∙◌, subst}
 use mathlib.Core.Logic.Iff
 use mathlib.Core.Logic.{◌↔◌}
 use mathlib.Core.Bool.{Bool, true, false, true≢false, false≢true}
-use mathlib.Core.List.{List, ◌++◌}
-use Prim.Native.Nat.{ℕ, suc, ◌+◌, ◌*◌, ◌-◌, ◌%◌, ◌≤◌, ◌<◌}
+use mathlib.Core.List.{List, [], ◌∷◌, ◌++◌}
+use Prim.Native.Nat.{ℕ, zero, suc, ◌+◌, ◌*◌, ◌-◌, ◌%◌, ◌≤◌, ◌<◌}
 use native.Mathlib.Nat as N
 use native.Mathlib.Omega.{arith}
 use native.Mathlib.Decide.{dec_lt}
-use borrow.Author.Tests.{eqb-true, eqb-false}
-use lib.Dec.{eqb}
 use lib.ListN.{length, take, drop, length-take, length-drop, length-append, take-append-drop, get_or-eq_default}
 use lib.Seq.{get_or-take, get_or-drop, length-take-le, drop_at, drop-drop}
-use Rattle.algebra.specs.Polynomial.{coef, power, after, degree, limit, terms, Same, Monic, Held}
-use Rattle.algebra.proofs.Polynomials.{◌⨾◌, same_refl, same_sym, after_same}
-use Rattle.algebra.proofs.Division.{parts-after, left-part_unique}
-use Rattle.algebra.proofs.ForcedPair.{left_agree}
-use Rattle.algebra.proofs.Agreement.{after_agree}
-use Rattle.algebra.proofs.Reduction.{reduced-above}
-use Rattle.polynomial.proofs.Below.{take_below, join_below}
-use Rattle.division.specs.Division.{DivisionAsked, Divided}
-use Rattle.division.proofs.Asked.{remainder_asked}
-use Rattle.division.proofs.Pieces.{front, back}
-use Rattle.halves.specs.Halves.{room, half, Doubled, RightPowers, heads, InsideDigit, Told, DivideAsked}
-use Rattle.halves.proofs.Doubling.{half_twice}
-use Rattle.halves.proofs.Raising.{power-one, asked_other}
-use Rattle.halves.proofs.Telling.{heads-place, heads-past, told-one}
+use Rattle.algebra.specs.Polynomial.{coef, after, Same, Held}
+use Rattle.algebra.proofs.Polynomials.{◌⨾◌, same_refl, same_sym, zero_nothing, plus-same, plus_comm, plus-nothing, times_comm, times-nothing, after_same, constant-after}
+use Rattle.algebra.proofs.Division.{after-short, parts-after, left-part_unique}
+use Rattle.division.specs.Division.{DivisionAsked, Divided, Raised, ConstantIs}
+use Rattle.division.proofs.Asked.{remainder_asked, raised_asked}
 use Rattle.left.specs.Digits.{Begins, Lowest, Digits}
+use Rattle.polynomial.proofs.Below.{take_below, join_below}
+use Rattle.division.proofs.Pieces.{front, back}
+use Rattle.division.proofs.Raising.{raised-one}
 
-module _ {m s : ℕ} {h : List ℕ} (pos : 0 < m) (above : 0 < s) (monic : Monic m s h) where
-  -- a g with g(h) = p would have the other's coefficients above that digit, and then g(h) would be the same inside it, too
-  pub inside-none : {x : ℕ} {p : List ℕ} → InsideDigit m h s p x → (g : List ℕ) → Same m p (after g h) → ⊥
-  inside-none {x} I g e = I.differs.here (e.at x ∙ after_agree m pos I.digit g I.g above monic (λ j b. agree j (omega (arith, I.high, N.mul-le-mul_right {m = suc I.digit} {n = j} s b))) x I.low)
+-- the first term of g, after anything
+first-term : {m : ℕ} → 0 < m → (g h : List ℕ) → Same m (after (take 1 g) h) (coef g 0 ∷ [])
+unfolding after
+first-term {m} pos [] h = same_sym (zero_nothing m pos)
+first-term {m} pos (x ∷ g) h = constant-after m pos x h
+
+-- and its others
+other-terms : (g : List ℕ) (i : ℕ) → coef (drop 1 g) i ≡ coef g (suc i)
+other-terms [] i = refl
+other-terms (x ∷ g) i = refl
+
+module _ {m s : ℕ} {h : List ℕ} (pos : 0 < m) (above : 0 < s) (right : Held m s h) where
+  -- p, shorter than h, is g(h) exactly if g is p's constant and p is
+  short-after : {p : List ℕ} → length p ≤ s → (g : List ℕ) → Same m p (after g h) ↔ (Same m p (coef g 0 ∷ []) × Same m [] (drop 1 g))
+  unfolding after
+  short-after {p} l g = (
+    λ e. (let (x, y) = apart.0 e in (x ⨾ first-term pos g h, left-part_unique m pos {g = []} above right.monic y)),
+    λ (x, y). apart.1 (x ⨾ same_sym (first-term pos g h), after_same m pos y (same_refl h)),
+  )
     where
-      agree : (j : ℕ) → suc x ≤ j * s → coef g j % m ≡ coef I.g j % m
-      agree = left_agree m pos (suc x) g I.g above monic (λ j b. sym (e.at (j * s)) ∙ I.differs.above (j * s) b)
+      apart : Same m p (after g h) ↔ (Same m p (after (take 1 g) h) × Same m [] (after (drop 1 g) h))
+      apart = parts-after m pos 1 {q = []} above right.monic (raised-one pos right).same (λ i b. ap (λ (x : ℕ). x % m) (get_or-eq_default p 0 (omega arith)))
+          (same_sym (plus-same m pos (same_refl p) (times_comm m pos h [] ⨾ times-nothing m pos h) ⨾ plus_comm m pos p [] ⨾ plus-nothing m pos p)) g
 
-  -- its constants are the only g
-  pub told-digits : {n x : ℕ} {p q : List ℕ} → length p ≤ n * s → Told m h s n p q x → Digits m h s p q (eqb x 0)
-  told-digits {n} {x} {p} {q} short t = record {
-    long = t.long;
-    below = t.below;
-    yes = λ e g. (λ w i. (left-part_unique m pos above monic (same_sym w ⨾ whole e)).at i ∙ place i, λ w. whole e ⨾ after_same m pos (record { at = λ i. place i ∙ sym (w i) }) (same_refl h));
-    no = λ e. inside-none (t.some (omega (arith, eqb-false x 0 e)));
-  }
-    where
-      whole : eqb x 0 ≡ true → Same m p (after (heads s n q) h)
-      whole e = t.all (eqb-true x 0 e)
-
-      place : (i : ℕ) → coef (heads s n q) i % m ≡ coef q (i * s) % m
-      place i = ap (λ (y : ℕ). y % m) (go (dec_lt i n))
-        where
-          go : Dec (i < n) → coef (heads s n q) i ≡ coef q (i * s)
-          go (yes l) = heads-place s n q i l
-          go (no l) = heads-past s n q i (omega arith) ∙ sym (get_or-eq_default q 0 (omega (arith, t.long, N.mul-le-mul_right {m = n} {n = i} s (omega arith))))
-
-  -- the division by b = h^k
-  module _ (k : ℕ) {w : ℕ} {b p q : List ℕ} (raised : Same m b (power h k)) (ew : w ≡ k * s) (l : w ≤ length p) (divided : Divided m b w p q) where
-    parts : (g : List ℕ) → Same m p (after g h) ↔ (Same m (take w q) (after (take k g) h) × Same m (drop w q) (after (drop k g) h))
-    parts = parts-after m pos k above monic raised
-        (λ i c. ap (λ (x : ℕ). x % m) (get_or-eq_default (take w q) 0 (omega (arith, length-take w q)))) divided.whole
-
-    -- k digits: the remainder has them
-    pub lowest_digits : {r : List ℕ} {t : Bool} → Digits m h s (take w q) r t → Lowest m h s k p (r ++ drop w q) t
-    lowest_digits {r} {t} digits =
-        record {
-          long = length-append r (drop w q) ∙ rw (wide, length-drop w q, divided.long) (omega arith);
-          below = join_below r (drop w q) digits.below (λ i. rw (get_or-drop w q i 0) (divided.below (w + i)));
-          yes = λ e g. Iff.trans (parts g) (λ (x, y). (λ i c. begins e g x i c, rw (← ew, drop_at r (drop w q) w wide) y), λ (x, y). ((digits.yes e (take k g)).1 (all g x), rw (← ew, drop_at r (drop w q) w wide) at y));
-          no = λ e g x. digits.no e (take k g) ((parts g).0 x).0;
-        }
-      where
-        wide : length r ≡ w
-        wide = digits.long ∙ length-take-le w q (rw divided.long l)
-
-        inside : (i : ℕ) → i < k → i * s < w
-        inside i c = omega (arith, N.mul-le-mul_right {m = i + 1} {n = k} s (omega arith))
-
-        begins : t ≡ true → (g : List ℕ) → Same m (take w q) (after (take k g) h) → Begins m s k (r ++ drop w q) g
-        begins e g x i c = ap (λ (y : ℕ). y % m) (sym (get_or-take k g i 0 c)) ∙ (digits.yes e (take k g)).0 x i ∙ ap (λ (y : ℕ). y % m) (sym (front r (drop w q) wide (i * s) (inside i c)))
-
-        all : (g : List ℕ) → Begins m s k (r ++ drop w q) g → (i : ℕ) → coef (take k g) i % m ≡ coef r (i * s) % m
-        all g x i = go (dec_lt i k)
-          where
-            go : Dec (i < k) → coef (take k g) i % m ≡ coef r (i * s) % m
-            go (yes c) = ap (λ (y : ℕ). y % m) (get_or-take k g i 0 c) ∙ x i c ∙ ap (λ (y : ℕ). y % m) (front r (drop w q) wide (i * s) (inside i c))
-            go (no c) = ap (λ (y : ℕ). y % m) (get_or-eq_default (take k g) 0 (omega (arith, length-take k g))
-                ∙ sym (get_or-eq_default r 0 (omega (arith, wide, N.mul-le-mul_right {m = k} {n = i} s (omega arith)))))
-
--- one digit
-pub lowest_digit : {m s x : ℕ} {h p q : List ℕ} → DivisionAsked m s h p → s ≤ length p → Divided m h s p q
-    → x ≡ degree (take s q) → Lowest m h s 1 p q (eqb x 0)
-lowest_digit {m} {s} {x} {h} {p} {q} d l c e = subst (λ (y : List ℕ). Lowest m h s 1 p y (eqb x 0)) (take-append-drop s q)
-    (lowest_digits pos d.above_zero d.right.monic 1 (power-one pos h) (omega arith) l c
-    (told-digits pos d.above_zero d.right.monic short (told-one pos d.above_zero d.right.monic rest.below rest.some short e)))
+-- what is shorter than h is one digit
+pub flat_digits : {m s : ℕ} {h p : List ℕ} {t : Bool} → DivisionAsked m s h p → length p ≤ s
+    → ConstantIs p t → Digits m h s p p t
+flat_digits {m} {s} {h} {p} {t} d l flat = record { long = refl; below = d.below; yes = λ e g. (digit e g, whole e g); no = λ e g w. none (flat.no e) g w }
   where
     pos : 0 < m
     pos = omega (arith, d.modulus.above_one)
 
-    rest : DivisionAsked m s h (take s q)
-    rest = remainder_asked s d c d.above_zero l
+    apart : (g : List ℕ) → Same m p (after g h) ↔ (Same m p (coef g 0 ∷ []) × Same m [] (drop 1 g))
+    apart = short-after pos d.above_zero d.right l
 
-    short : length (take s q) ≤ 1 * s
-    short = omega (arith, length-take s q)
+    beyond : (i : ℕ) → coef p (suc i * s) ≡ 0
+    beyond i = get_or-eq_default p 0 (omega (arith, N.mul-le-mul_right {m = 1} {n = suc i} s (omega arith)))
+
+    first : coef p (0 * s) ≡ coef p 0
+    first = ap (coef p) (N.zero-mul s)
+
+    digit : t ≡ true → (g : List ℕ) → Same m p (after g h) → (i : ℕ) → coef g i % m ≡ coef p (i * s) % m
+    digit e g w zero = sym (((apart g).0 w).0.at 0) ∙ ap (λ (x : ℕ). x % m) (sym first)
+    digit e g w (suc i) = ap (λ (x : ℕ). x % m) (sym (other-terms g i)) ∙ sym (((apart g).0 w).1.at i) ∙ ap (λ (x : ℕ). x % m) (sym (beyond i))
+
+    whole : t ≡ true → (g : List ℕ) → ((i : ℕ) → coef g i % m ≡ coef p (i * s) % m) → Same m p (after g h)
+    whole e g w = (apart g).1 (record { at = constant }, record { at = λ i. sym (ap (λ (x : ℕ). x % m) (other-terms g i) ∙ w (suc i) ∙ ap (λ (x : ℕ). x % m) (beyond i)) })
+      where
+        constant : (i : ℕ) → coef p i % m ≡ coef (coef g 0 ∷ []) i % m
+        constant zero = ap (λ (x : ℕ). x % m) (sym first) ∙ sym (w 0)
+        constant (suc i) = ap (λ (x : ℕ). x % m) (flat.yes e (suc i) (omega arith))
+
+    none : (i : ℕ) × (0 < i) × ¬ (coef p i ≡ 0) → (g : List ℕ) → Same m p (after g h) → ⊥
+    none (zero, b, n) g w = N.not-suc-le-zero b
+    none (suc i, b, n) g w = n (sym (N.mod-eq_of_lt (d.below (suc i))) ∙ ((apart g).0 w).0.at (suc i) ∙ N.zero-mod m)
+
+-- the division by h^k
+module _ {m s w : ℕ} (k : ℕ) {h b p q : List ℕ} (d : DivisionAsked m s h p) (raised : Raised m h s k b) (ew : w ≡ k * s) (l : w ≤ length p) (divided : Divided m b w p q) where
+  pos : 0 < m
+  pos = omega (arith, d.modulus.above_one)
+
+  halves : (g : List ℕ) → Same m p (after g h) ↔ (Same m (take w q) (after (take k g) h) × Same m (drop w q) (after (drop k g) h))
+  halves = parts-after m pos k d.above_zero d.right.monic raised.same
+      (λ i c. ap (λ (x : ℕ). x % m) (get_or-eq_default (take w q) 0 (omega (arith, length-take w q)))) divided.whole
+
+  -- k digits: the remainder has them, in its lowest v places
+  pub lowest_digits : {v : ℕ} {r : List ℕ} {t : Bool} → v ≤ w → w < v + s → ((i : ℕ) → v ≤ i → i < w → coef q i ≡ 0)
+      → Digits m h s (take v q) r t → Lowest m h s k p (r ++ drop v q) t
+  lowest_digits {v} {r} {t} lv ls gap digits =
+      record {
+        long = length-append r (drop v q) ∙ rw (wide, length-drop v q, divided.long) (omega arith);
+        below = join_below r (drop v q) digits.below (λ i. rw (get_or-drop v q i 0) (divided.below (v + i)));
+        yes = λ e g. Iff.trans (halves g) (λ (x, y). (λ i c. begins e g x i c, rw (← ew, rest) y), λ (x, y). (short ⨾ (digits.yes e (take k g)).1 (all g x), rw (← ew, rest) at y));
+        no = λ e g x. digits.no e (take k g) (same_sym short ⨾ ((halves g).0 x).0);
+      }
+    where
+      wide : length r ≡ v
+      wide = digits.long ∙ length-take-le v q (rw divided.long (omega arith))
+
+      -- what is above the remainder stays
+      rest : drop w (r ++ drop v q) ≡ drop w q
+      rest = let f : w ≡ v + (w - v) = omega arith in rw f (sym (drop-drop (w - v) v (r ++ drop v q)) ∙ ap (drop (w - v)) (drop_at r (drop v q) v wide) ∙ drop-drop (w - v) v q)
+
+      -- and above its lowest v places there is nothing
+      short : Same m (take w q) (take v q)
+      short = record { at = λ i. ap (λ (x : ℕ). x % m) (go i (dec_lt i v) (dec_lt i w)) }
+        where
+          go : (i : ℕ) → Dec (i < v) → Dec (i < w) → coef (take w q) i ≡ coef (take v q) i
+          go i (yes x) y = get_or-take w q i 0 (omega arith) ∙ sym (get_or-take v q i 0 x)
+          go i (no x) (yes y) = get_or-take w q i 0 y ∙ gap i (omega arith) y ∙ sym (get_or-eq_default (take v q) 0 (omega (arith, length-take v q)))
+          go i (no x) (no y) = get_or-eq_default (take w q) 0 (omega (arith, length-take w q)) ∙ sym (get_or-eq_default (take v q) 0 (omega (arith, length-take v q)))
+
+      inside : (i : ℕ) → i < k → i * s < v
+      inside i c = omega (arith, N.mul-le-mul_right {m = i + 1} {n = k} s (omega arith))
+
+      begins : t ≡ true → (g : List ℕ) → Same m (take w q) (after (take k g) h) → Begins m s k (r ++ drop v q) g
+      begins e g x i c = ap (λ (y : ℕ). y % m) (sym (get_or-take k g i 0 c)) ∙ (digits.yes e (take k g)).0 (same_sym short ⨾ x) i ∙ ap (λ (y : ℕ). y % m) (sym (front r (drop v q) wide (i * s) (inside i c)))
+
+      all : (g : List ℕ) → Begins m s k (r ++ drop v q) g → (i : ℕ) → coef (take k g) i % m ≡ coef r (i * s) % m
+      all g x i = go (dec_lt i k)
+        where
+          go : Dec (i < k) → coef (take k g) i % m ≡ coef r (i * s) % m
+          go (yes c) = ap (λ (y : ℕ). y % m) (get_or-take k g i 0 c) ∙ x i c ∙ ap (λ (y : ℕ). y % m) (front r (drop v q) wide (i * s) (inside i c))
+          go (no c) = ap (λ (y : ℕ). y % m) (get_or-eq_default (take k g) 0 (omega (arith, length-take k g))
+              ∙ sym (get_or-eq_default r 0 (omega (arith, wide, N.mul-le-mul_right {m = k} {n = i} s (omega arith)))))
+
+  -- the remainder's highest digit, from place `top` on
+  module _ (top : ℕ) (et : top + s ≡ w) {t : Bool} (flat : ConstantIs (take (w - top) (drop top q)) t) where
+    place : (j : ℕ) → j < w - top → coef (take (w - top) (drop top q)) j ≡ coef q (top + j)
+    place j l = get_or-take (w - top) (drop top q) j 0 l ∙ get_or-drop top q j 0
+
+    -- is a constant: then the remainder ends there
+    pub top_flat : t ≡ true → (i : ℕ) → top + 1 ≤ i → i < w → coef q i ≡ 0
+    top_flat e i a b =
+        let f : top + (i - top) ≡ i = omega arith in
+        ap (coef q) (sym f) ∙ sym (place (i - top) (omega arith)) ∙ flat.yes e (i - top) (omega arith)
+
+    -- or is none
+    pub lowest_top : t ≡ false → Lowest m h s k p q false
+    lowest_top e = record { long = divided.long; below = divided.below; yes = λ f. absurd (false≢true f); no = λ _ g x. none (flat.no e) g ((halves g).0 x).0 }
+      where
+        none : (i : ℕ) × (0 < i) × ¬ (coef (take (w - top) (drop top q)) i ≡ 0) → (g : List ℕ) → Same m (take w q) (after (take k g) h) → ⊥
+        none (i, a, n) g x = go (dec_lt i (w - top))
+          where
+            go : Dec (i < w - top) → ⊥
+            go (yes b) = n (place i b ∙ sym (N.mod-eq_of_lt (divided.below (top + i))) ∙ ap (λ (y : ℕ). y % m) (sym (get_or-take w q (top + i) 0 (omega arith))) ∙ x.at (top + i)
+                ∙ after-short m pos d.above_zero d.right.monic k g (top + i) (omega arith) ∙ N.zero-mod m)
+            go (no b) = n (get_or-eq_default (take (w - top) (drop top q)) 0 (omega (arith, length-take (w - top) (drop top q))))
+
+-- one digit
+pub lowest_digit : {m s : ℕ} {h p q : List ℕ} {t : Bool} → DivisionAsked m s h p → s ≤ length p → Divided m h s p q
+    → ConstantIs (take s q) t → Lowest m h s 1 p q t
+lowest_digit {m} {s} {h} {p} {q} {t} d l c flat = subst (λ (x : List ℕ). Lowest m h s 1 p x t) (take-append-drop s q)
+    (lowest_digits 1 d (raised-one (omega (arith, d.modulus.above_one)) d.right) (omega arith) l c (omega arith) (omega (arith, d.above_zero)) (λ (i : ℕ) (x : s ≤ i) (y : i < s). absurd (N.lt_irrefl i (N.le_trans y x)))
+    (flat_digits (remainder_asked s d c d.above_zero l) (omega (arith, length-take s q)) flat))
 
 -- the digits below place `at` are found, and what is above it is the quotient
 pub record Reached (m : ℕ) (h : List ℕ) (s : ℕ) (p₀ : List ℕ) (at : ℕ) (p : List ℕ) : Type 0 where
@@ -122,6 +172,10 @@ pub record Reached (m : ℕ) (h : List ℕ) (s : ℕ) (p₀ : List ℕ) (at : �
   pub place : at ≡ number * s
   pub inside : at < length p
   pub found : Lowest m h s number p₀ p true
+
+-- where there is a quotient beside the first digit
+pub digits_long : {r s n : ℕ} → 0 < r → n ≡ r * s + 1 → s < n
+digits_long {r} {s} l e = omega (arith, N.mul-le-mul_right {m = 1} {n = r} s l)
 
 -- a digit that is no constant
 pub lowest_no : {m s k : ℕ} {h p q : List ℕ} {t : Bool} → Lowest m h s k p q t → t ≡ false → Digits m h s p q false
@@ -132,8 +186,8 @@ pub reached-first : {m s : ℕ} {h p q : List ℕ} {t : Bool} → s < length p �
 reached-first {m} {s} {h} {p} {q} l d e = record { number = 1; place = omega arith; inside = rw d.long l; found = subst (Lowest m h s 1 p q) e d }
 
 -- before the first digit
-pub reached-none : {m s j : ℕ} {h b p : List ℕ} → DivideAsked m s j b p → Reached m h s p 0 p
-reached-none {m} {s} {p = p} d =
+pub reached-none : {m s : ℕ} {h p : List ℕ} → DivisionAsked m s h p → Reached m h s p 0 p
+reached-none {m} {s} {h} {p} d =
     record {
       number = 0;
       place = sym (N.zero-mul s);
@@ -213,40 +267,13 @@ module _ {m s at : ℕ} {h p₀ p : List ℕ} (above : 0 < s) (c : Reached m h s
   }
 
   -- the quotient may be divided again, too
-  pub reached_asked : {i : ℕ} {b : List ℕ} → DivideAsked m s i b p₀ → DivideAsked m s i b (drop at p)
-  reached_asked {i} d = asked_other d i (drop at p) d.doubled (N.le_refl i) (λ k. rw (get_or-drop at p k 0) (c.found.below (at + k)))
-      (omega (arith, length-drop at p, c.inside)) (omega (arith, length-drop at p, c.found.long))
-
-module _ {r s n : ℕ} (two : 2 ≤ r) (e : n ≡ r * s + 1) where
-  -- where there is a quotient beside the first digit
-  pub digits_long : s < n
-  digits_long = omega (arith, N.mul-le-mul_right {m = 1} {n = r} s (omega arith))
-
-  -- the number of digits, and of the powers' words
-  pub powers_fit : 0 < s → n ≤ terms → (r ≤ limit) × ((half r + half r) * (s + 1) ≤ room)
-  unfolding room terms limit
-  powers_fit above l =
-      let f : r ≤ r * s = omega (arith, N.mul-le-mul_left {m = 1} {n = s} r above) in
-      (omega arith, omega (arith, N.mul-le-mul_right {m = half r + half r} {n = r} (s + 1) (half_twice r two)))
-
--- the powers of h may divide what h may
-pub powers_divide : {m s j : ℕ} {h b p : List ℕ} → DivisionAsked m s h p → RightPowers m s j b → Doubled j → DivideAsked m s j b p
-powers_divide {j = j} d c x = record { top = j; powers = c; within = N.le_refl j; doubled = x; below = d.below; some = d.some; inside = d.inside }
-
--- what is held has zeros above its degree
-pub held_cut : {m n : ℕ} {f : List ℕ} → Held m n f → Same m (take (n + 1) f) f
-held_cut {m} {n} {f} c = record { at = λ i. ap (λ (x : ℕ). x % m) (go i (dec_lt i (n + 1))) }
-  where
-    go : (i : ℕ) → Dec (i < n + 1) → coef (take (n + 1) f) i ≡ coef f i
-    go i (yes l) = get_or-take (n + 1) f i 0 l
-    go i (no l) = get_or-eq_default (take (n + 1) f) 0 {n = i} (omega (arith, length-take (n + 1) f)) ∙ sym (reduced-above c.reduced c.monic i (omega arith))
-
--- so that the digits are those in powers of h
-pub digits-held : {m s : ℕ} {h p q : List ℕ} {t : Bool} → 0 < m → Held m s h → Digits m (take (s + 1) h) s p q t → Digits m h s p q t
-digits-held {m} {s} {h} {p} pos c d = record { long = d.long; below = d.below; yes = λ e g. Iff.trans (cut g) (d.yes e g); no = λ e g x. d.no e g ((cut g).0 x) }
-  where
-    both : (g : List ℕ) → Same m (after g (take (s + 1) h)) (after g h)
-    both g = after_same m pos (same_refl g) (held_cut c)
-
-    cut : (g : List ℕ) → Same m p (after g h) ↔ Same m p (after g (take (s + 1) h))
-    cut g = (λ x. x ⨾ same_sym (both g), λ x. x ⨾ both g)
+  pub reached_asked : DivisionAsked m s h p₀ → DivisionAsked m s h (drop at p)
+  reached_asked d =
+      record {
+        modulus = d.modulus;
+        right = d.right;
+        above_zero = above;
+        below = λ i. rw (get_or-drop at p i 0) (c.found.below (at + i));
+        some = omega (arith, length-drop at p, c.inside);
+        inside = omega (arith, length-drop at p, c.found.long, d.inside);
+      }

@@ -5,7 +5,7 @@
 --   digits-terms, digits-past          with what lies above x^n the list has all places of a polynomial, and no digit above the r-th
 --   digits-none                        a digit that is no constant refutes every left part
 --   digits-found                       where all are constants, they are the left part
-use mathlib.Core.Path.{◌≡◌, refl, sym, ap, ◌∙◌}
+use mathlib.Core.Path.{◌≡◌, sym, ap, ◌∙◌}
 use mathlib.Core.Bool.{Bool, true, false}
 use mathlib.Core.List.{List, ◌++◌}
 use Prim.Native.Nat.{ℕ, ◌+◌, ◌*◌, ◌-◌, ◌%◌, ◌≤◌, ◌<◌}
@@ -13,7 +13,7 @@ use native.Mathlib.Nat as N
 use native.Mathlib.Omega.{arith}
 use native.Mathlib.Decide.{dec_lt}
 use lib.ListN.{length, take, drop, length-append, length-drop, get_or-eq_default}
-use lib.Seq.{get_or-drop, length-take-le}
+use lib.Seq.{get_or-take, get_or-drop, length-take-le}
 use Rattle.algebra.specs.Polynomial.{coef, after, limit, terms, Same}
 use Rattle.algebra.specs.Number.{table}
 use Rattle.algebra.proofs.Numbers.{table-length, table_below, table-above}
@@ -25,8 +25,6 @@ use Rattle.division.specs.Division.{DivisionAsked}
 use Rattle.left.specs.Digits.{Digits}
 use Rattle.polynomial.proofs.Below.{take_below}
 use Rattle.division.proofs.Pieces.{front, back}
-use Rattle.halves.proofs.Raising.{raised-first}
-use Rattle.left.proofs.Expanding.{held_cut}
 
 -- the constant of digit i, and its number, are within the limit
 pub constant-place : {r s i : ℕ} → 0 < s → r * s ≤ limit → i ≤ r → (i * s ≤ limit) × (i ≤ limit)
@@ -50,15 +48,18 @@ module _ {m n r s : ℕ} {f h : List ℕ} (asked : LeftAsked m n r s f h) where
 
   -- f's places up to x^n are all of f
   pub asked_same : Same m (take (n + 1) f) f
-  asked_same = held_cut asked.whole
+  asked_same = record { at = λ i. ap (λ (x : ℕ). x % m) (go i (dec_lt i (n + 1))) }
+    where
+      go : (i : ℕ) → Dec (i < n + 1) → coef (take (n + 1) f) i ≡ coef f i
+      go i (yes l) = get_or-take (n + 1) f i 0 l
+      go i (no l) = get_or-eq_default (take (n + 1) f) 0 {n = i} (omega (arith, long)) ∙ sym (reduced-above asked.whole.reduced asked.whole.monic i (omega arith))
 
-  pub asked_division : DivisionAsked m s (take (s + 1) h) (take (n + 1) f)
+  pub asked_division : DivisionAsked m s h (take (n + 1) f)
   unfolding terms
   asked_division =
-      let o : 1 * s ≡ s = omega arith in
       record {
         modulus = asked.modulus;
-        right = rw o at (raised-first pos asked.right refl).divides;
+        right = asked.right;
         above_zero = omega (arith, two);
         below = take_below pos (n + 1) f (λ i l. asked.whole.reduced.below i (omega (arith, asked.whole.within)));
         some = omega (arith, long);

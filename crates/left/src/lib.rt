@@ -1,13 +1,12 @@
 // The left part of f for a given right part h, by repeated division by h with remainder (document 001, 3.1; true remainders,
 // since its r_i = q_i(0) wants h(0) = 0): the remainders are the digits of f in powers of h. f = g(h) exactly if every digit is
 // a constant, and then they are the coefficients of g. One list holds the digits found and, above them, the quotient still to
-// be divided. Where there are many digits some are taken at once, by a division by h^j, and told apart by halves.
-ghost use Rattle.std.specs.Prelude.{◌≡◌, ℕ, ◌+◌, ◌*◌, ◌≤◌, ◌<◌, length, take};
+// be divided. Where there are many digits some are taken at once, by a division by h^k, and told apart by divisions by h.
+ghost use Rattle.std.specs.Prelude.{◌≡◌, ℕ, ◌+◌, ◌*◌, ◌≤◌, ◌<◌, length};
 ghost use Rattle.algebra.specs.Number.{table};
 ghost use Rattle.algebra.specs.Polynomial.{coef, limit, terms, Held};
 ghost use Rattle.reciprocal.specs.Ready.{Ready};
-ghost use Rattle.division.specs.Division.{DivisionAsked};
-ghost use Rattle.halves.specs.Halves.{right_of, DivideAsked};
+ghost use Rattle.division.specs.Division.{DivisionAsked, Raised};
 ghost use Rattle.left.specs.Digits.{Lowest, Digits};
 ghost use Rattle.left.specs.Left.{LeftAsked, LeftAnswer};
 
@@ -21,48 +20,66 @@ fn digit(p: &mut [u32], h: &[u32], s: usize, m: Divisor) -> bool
     ensures { Lowest m.number h.now s 1 p.old p.new result }
 {
     division::divide(p, h, s, m);
-    polynomial::degree(&p[..s]) == 0
+    division::is_constant(&p[..s])
 }
 
-// The lowest j digits of p at once: the remainder by h^j, one of the powers b, has them.
-fn block(p: &mut [u32], b: &[u32], j: usize, s: usize, m: Divisor) -> bool
-    requires { DivideAsked m.number s j b.now p.old × (j * s < length p.old) × Ready m }
-    ensures { Lowest m.number (right_of s b.now) s j p.old p.new result }
+// All digits of p, one by one; one that is no constant ends it with "no".
+fn digits(p: &mut [u32], h: &[u32], s: usize, m: Divisor) -> bool
+    requires { DivisionAsked m.number s h.now p.old × Ready m }
+    ensures { Digits m.number h.now s p.old p.new result }
 {
-    let w = j * s;
-    let n = p.len();
-    halves::divide_by(p, b, j, s, n, 0, m);
-    halves::halves(&mut p[..w], b, j, s, m) == 0
+    let mut at = 0;
+    while s < p.len() - at {
+        if !digit(&mut p[at..], h, s, m) {
+            return false;
+        }
+        at += s;
+    }
+    division::is_constant(&p[at..])
 }
 
-// All digits of p, j at once as long as there are more than j, and then the others.
-fn blocks(p: &mut [u32], b: &[u32], j: usize, s: usize, m: Divisor) -> bool
-    requires { DivideAsked m.number s j b.now p.old × Ready m }
-    ensures { Digits m.number (right_of s b.now) s p.old p.new result }
+// The lowest k digits of p at once: the remainder by b = h^k has them. If they are constants, it ends where h^(k-1) does.
+fn block(p: &mut [u32], h: &[u32], b: &[u32], k: usize, s: usize, m: Divisor) -> bool
+    requires { DivisionAsked m.number s h.now p.old × Raised m.number h.now s k b.now × (0 < k) × (k * s ≤ length p.old) × Ready m }
+    ensures { Lowest m.number h.now s k p.old p.new result }
 {
-    let w = j * s;
+    let w = k * s;
+    division::divide(p, b, w, m);
+    let top = w - s;
+    if !division::is_constant(&p[top..w]) {
+        return false;
+    }
+    digits(&mut p[..top + 1], h, s, m)
+}
+
+// All digits of p, k at once by b = h^k as long as there are more than k, and the others one by one.
+fn blocks(p: &mut [u32], h: &[u32], b: &[u32], k: usize, s: usize, m: Divisor) -> bool
+    requires { DivisionAsked m.number s h.now p.old × Raised m.number h.now s k b.now × (0 < k) × Ready m }
+    ensures { Digits m.number h.now s p.old p.new result }
+{
+    let w = k * s;
     let mut at = 0;
     while w < p.len() - at {
-        if !block(&mut p[at..], b, j, s, m) {
+        if !block(&mut p[at..], h, b, k, s, m) {
             return false;
         }
         at += w;
     }
-    halves::halves(&mut p[at..], b, j, s, m) == 0
+    digits(&mut p[at..], h, s, m)
 }
 
 // All digits of p, of degree r * s: the first by itself, since most polynomials that are no g(h) show it there.
-fn expand(p: &mut [u32], h: &[u32], r: usize, s: usize, m: Divisor) -> bool
-    requires { DivisionAsked m.number s (take (s + 1) h.now) p.old × Held m.number s h.now × (length p.old ≡ r * s + 1) × (2 ≤ r) × Ready m }
+fn expand(p: &mut [u32], h: &Coefficients, r: usize, s: usize, m: Divisor) -> bool
+    requires { DivisionAsked m.number s h.now p.old × (length p.old ≡ r * s + 1) × (0 < r) × Ready m }
     ensures { Digits m.number h.now s p.old p.new result }
 {
-    if !digit(p, &h[..s + 1], s, m) {
+    if !digit(p, h, s, m) {
         return false;
     }
-    let j = halves::half(r);
-    let mut b = [0; halves::ROOM];
-    halves::powers(&mut b, h, j, s, m);
-    blocks(&mut p[s..], &b, j, s, m)
+    let k = division::at_once(r);
+    let mut b = *h;
+    division::raise(&mut b, h, k, s, m);
+    blocks(&mut p[s..], h, &b, k, s, m)
 }
 
 // The constants of the digits, of which a has no more than r + 1, as a polynomial.

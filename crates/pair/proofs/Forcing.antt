@@ -38,7 +38,7 @@ use Rattle.report.specs.Report as digits
 use Rattle.left.specs.Left as left
 use Rattle.binomial.specs.Triangle.{rows}
 use Rattle.right.specs.Right.{RightAsked, RightPart, Root}
-use Rattle.right.proofs.Columns.{left-twice, right-twice}
+use Rattle.right.proofs.Columns.{left_twice, right_twice}
 use Rattle.pair.specs.Pairing.{SplitAsked, Opened, SplitAnswer}
 use Rattle.pair.specs.Pairing as of
 use Rattle.pair.specs.Asking.{QuickAnswer}
@@ -60,7 +60,7 @@ fits_below {n} {r} {s} d = (omega (arith, d.product, N.mul-le-mul_left r d.two_r
 -- and has a row in the table
 pub below_rows : {n r s : ℕ} → Degrees n r s → (r < rows) × (s < rows)
 unfolding rows limit
-below_rows d = (omega (arith, left-twice d, d.within), omega (arith, right-twice d, d.within))
+below_rows d = (omega (arith, left_twice d, d.within), omega (arith, right_twice d, d.within))
 
 forced-none : {m n r s : ℕ} {f h : List ℕ} → 1 < m → Degrees n r s → Coprime r m → RightPart m f r s h → NoLeft m f r h → NoPair m f r s
 forced-none {m} {n} {r} {s} {f} {h} two d c right none = (no-normal-pair pos rp sp (fits_below d).0 (fits_below d).1).0 go

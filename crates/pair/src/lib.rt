@@ -196,7 +196,7 @@ fn unasked(outcome: Outcome) -> Verdict
     }
 }
 
-// The quick question by the inverse u of r: the root says most nos, and the digits, from the top, the others.
+// The quick question by the inverse u of r: the root says most nos, and all digits the others.
 fn report(f: Coefficients, n: usize, r: usize, s: usize, u: u32, row: &[u64], m: Divisor) -> Verdict
     requires { SplitAsked m.number n r s f × HasRow r (min r (s + 1)) row.now × (r * u % m.number ≡ 1) × Ready m }
     ensures { QuickAnswer m.number f r s result }

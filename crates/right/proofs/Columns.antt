@@ -1,6 +1,6 @@
 -- The rows of the powers of t as the loops fill them, column after column.
 --
---   left-twice, right-twice      the degrees of a pair are at most half of n
+--   left_twice, right_twice      the degrees of a pair are at most half of n
 --   column_none, column_more     column k, its rows one after the other
 --   column_place                 the place that its loop writes is there
 --   column_room, column_strides  the rows that column k has, as many as r and k allow, are there
@@ -27,11 +27,11 @@ use Rattle.polynomial.proofs.Below.{set_below}
 use Rattle.polynomial.proofs.Filling.{zeros}
 use Rattle.right.specs.Rows.{words, Space, Scaled, Before, Column, Rows}
 
-pub left-twice : {n r s : ℕ} → Degrees n r s → r + r ≤ n
-left-twice {n} {r} {s} D = omega (arith, mul-le-mul_left {m = 2} {n = s} r D.two_right)
+pub left_twice : {n r s : ℕ} → Degrees n r s → r + r ≤ n
+left_twice {n} {r} {s} D = omega (arith, mul-le-mul_left {m = 2} {n = s} r D.two_right)
 
-pub right-twice : {n r s : ℕ} → Degrees n r s → s + s ≤ n
-right-twice {n} {r} {s} D = omega (arith, mul-le-mul_right {m = 2} {n = r} s D.two_left)
+pub right_twice : {n r s : ℕ} → Degrees n r s → s + s ≤ n
+right_twice {n} {r} {s} D = omega (arith, mul-le-mul_right {m = 2} {n = r} s D.two_left)
 
 -- the column of a place
 column_of : (s i c : ℕ) → c < s → (i * s + c) % s ≡ c
@@ -108,7 +108,7 @@ column_place i n w k l h b = omega (arith, mul-le-mul_right {m = i + 2} {n = n +
 module _ {n r s k l : ℕ} (D : Degrees n r s) (e : l ≡ min r k) (kw : k < s + 2) where
   room : l * (s + 2) ≤ words
   unfolding words terms
-  room = let t : l * s ≤ r * s = mul-le-mul_right s (omega arith) in omega (arith, left-twice D)
+  room = let t : l * s ≤ r * s = mul-le-mul_right s (omega arith) in omega (arith, left_twice D)
 
   pub column_room : 0 < k → (l - 1 + 1) * (s + 2) ≤ words
   column_room kp = let q : l - 1 + 1 ≡ l = omega (arith, D.two_left) in rw q room
@@ -116,8 +116,8 @@ module _ {n r s k l : ℕ} (D : Degrees n r s) (e : l ≡ min r k) (kw : k < s +
   pub column_strides : {la lb : ℕ} → l < la → lb ≡ words → Strides la lb 1 (l + 1) k (s + 2)
   unfolding limit
   column_strides f g =
-      let p = left-twice D in
-      let q = right-twice D in
+      let p = left_twice D in
+      let q = right_twice D in
       record {
         order = omega arith;
         first = omega arith;

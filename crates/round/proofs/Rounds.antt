@@ -2,7 +2,7 @@
 --
 --   tested-few                       at most as many tries as right degrees
 --   split_divides, split_pair        the right degree of a pair divides n, and its left degree is n/s
---   half-degrees                     a divisor up to n/2 is the right degree of a pair
+--   half_degrees                     a divisor up to n/2 is the right degree of a pair
 --   Passed m n f s t                 f splits at no right degree below s, and t of those were tested
 --   passed_none, passed-few          no right degree is below 2; there are fewer tries than s
 --   passed_over, passed_missed       one that does not divide n; one at which there is no pair
@@ -77,8 +77,8 @@ pub split_pair : {m n s : ℕ} {f : List ℕ} (w : SplitsRight m n f s) → Pair
 split_pair {m} {s = s} {f = f} w = subst (λ (r : ℕ). Pair m f r s w.g w.h) (sym (N.mul-div_cancel w.r (omega (arith, w.two_right))) ∙ ap (λ (x : ℕ). x / s) w.degrees) w.pair
 
 -- a divisor from 2 to n/2 is the right degree of a pair
-pub half-degrees : {n s : ℕ} → 2 ≤ s → n % s ≡ 0 → s ≤ n / 2 → n ≤ limit → Degrees n (n / s) s
-half-degrees {n} {s} b e l k = record { product = omega (arith, N.div-add-mod' n s, e); within = k; two_left = (N.le-div_iff_mul-le {k = s} {x = 2} {y = n} (omega arith)).1 (omega arith); two_right = b }
+pub half_degrees : {n s : ℕ} → 2 ≤ s → n % s ≡ 0 → s ≤ n / 2 → n ≤ limit → Degrees n (n / s) s
+half_degrees {n} {s} b e l k = record { product = omega (arith, N.div-add-mod' n s, e); within = k; two_left = (N.le-div_iff_mul-le {k = s} {x = 2} {y = n} (omega arith)).1 (omega arith); two_right = b }
 
 -- f splits at no right degree below s, and t of those were tested
 pub record Passed (m n : ℕ) (f : List ℕ) (s t : ℕ) : Type 0 where
@@ -138,7 +138,7 @@ searched_splits {m} {s = s} {f = f} a w = record {
 -- at a right degree
 module _ {m n s : ℕ} {f table : List ℕ} (a : ChainAsked m n f table) (two : 2 ≤ s) (e : n % s ≡ 0) (l : s ≤ n / 2) where
   pub asked_at : SplitAsked m n (n / s) s f
-  asked_at = record { modulus = a.modulus; degrees = half-degrees two e l a.whole.within; whole = a.whole }
+  asked_at = record { modulus = a.modulus; degrees = half_degrees two e l a.whole.within; whole = a.whole }
 
   pub coprime-at : Coprime (n / s) m
   coprime-at = left-coprime s a.modulus.above_one a.coprime asked_at.degrees.product

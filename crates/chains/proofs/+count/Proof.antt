@@ -7,7 +7,7 @@ use borrow.Fn.PlainCycle.{Measures, is, falls, and}
 use Rattle.algebra.specs.Polynomial.{limit}
 use Rattle.algebra.proofs.Chains.{sum-within}
 use Rattle.round.proofs.Asking.{chainable, left_asked}
-use Rattle.round.proofs.Rounds.{half-degrees}
+use Rattle.round.proofs.Rounds.{half_degrees}
 use Rattle.chains.proofs.Counting.{undivided, Below, below_none, below_pass, below-take, below-few, counted_one, counted_all}
 use Rattle.chains.proofs.count.Reads as count
 use Rattle.chains.proofs.count.Kinds as count-kinds
@@ -41,7 +41,7 @@ count-loop-holds t c = (below_none (chainable c.requires.1.0), omega arith, omeg
 count-rightmost-requires : (t : ℕ) → count-lts.Need-rightmost-requires (count-claims t) (count_at t) count.Post count-Inv-loop count-μ-loop
 count-rightmost-requires t c κs =
     let p = c.before.before.before.requires.1 in
-    (p.0, half-degrees c.before.before.loop.invariant.1 c.if1.true (omega arith) p.0.whole.within, p.1)
+    (p.0, half_degrees c.before.before.loop.invariant.1 c.if1.true (omega arith) p.0.whole.within, p.1)
 
 count-count-requires : (t : ℕ) → count-lts.Need-count-requires (count-claims t) (count_at t) count.Post count-Inv-loop count-μ-loop
 count-count-requires t c κs =

@@ -11,7 +11,7 @@ use Rattle.algebra.proofs.Chains.{sum-within}
 use Rattle.algebra.proofs.Complete.{degree_is, right-degree}
 use Rattle.area.specs.Area.{most_parts, area_words}
 use Rattle.round.proofs.Asking.{chainable, left_asked}
-use Rattle.round.proofs.Rounds.{half-degrees}
+use Rattle.round.proofs.Rounds.{half_degrees}
 use Rattle.chains.proofs.Counting.{undivided}
 use Rattle.chains.proofs.Walking.{Gone, gone_none, gone_pass, gone_take, walked_yes, walked_no, room_next, more-price, reached-more, all-passed, one-passed, reached-one}
 use Rattle.chains.proofs.walk.Reads as walk
@@ -51,7 +51,7 @@ walk-loop-holds t c = (refl, gone_none (chainable c.before.requires.1.0) _, omeg
 walk-rightmost-requires : (t : ℕ) → walk-lts.Need-rightmost-requires (walk-claims t) (walk_at t) walk.Post walk-Inv-loop walk-μ-loop
 walk-rightmost-requires t c κs =
     let p = c.before.before.before.before.requires.1 in
-    (p.0, half-degrees c.before.before.loop.invariant.2 c.if1.true (omega arith) p.0.whole.within, p.2)
+    (p.0, half_degrees c.before.before.loop.invariant.2 c.if1.true (omega arith) p.0.whole.within, p.2)
 
 walk-walk-requires : (t : ℕ) → walk-lts.Need-walk-requires (walk-claims t) (walk_at t) walk.Post walk-Inv-loop walk-μ-loop
 unfolding area_words most_parts terms limit

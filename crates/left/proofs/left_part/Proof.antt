@@ -17,7 +17,7 @@ slice-aggregate-expand c = sym (length-take-le _ _ (omega (arith, c.before.requi
 expand-requires : tie.Need-expand-requires
 expand-requires c κs =
     let p = c.before.before.requires.0 in
-    (asked_division p, p.right, asked_long p, p.degrees.two_left, c.before.before.requires.1)
+    (asked_division p, asked_long p, omega (arith, p.degrees.two_left), c.before.before.requires.1)
 
 -- No. 7: a digit is no constant
 returns : tie.Need-returns
@@ -43,7 +43,6 @@ left-part-spec =
     (λ c. search rules)
     (λ c. search rules)
     slice-aggregate-expand
-    (λ c. search rules)
     expand-requires
     (λ c κs. search rules)
     (λ c κs. search rules)

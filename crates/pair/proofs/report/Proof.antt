@@ -6,7 +6,7 @@ use borrow.Author.Rules.{rules}
 use borrow.Author.Tests.{not-true}
 use Rattle.algebra.specs.Polynomial.{limit, terms}
 use Rattle.right.specs.Rows.{words}
-use Rattle.right.proofs.Columns.{right-twice, room-none}
+use Rattle.right.proofs.Columns.{right_twice, room-none}
 use Rattle.pair.specs.Asking.{differs}
 use Rattle.pair.proofs.Forcing.{asked_root, asked_left, root_apart, report_told}
 use Rattle.pair.proofs.report.Statement.{statement}
@@ -21,10 +21,10 @@ root-requires c κs =
     (asked_root p.0 unit, p.1, room-none (omega (arith, p.0.modulus.above_one)), p.3)
 
 sub-t19 : tie.Need-overflow-sub-t19
-sub-t19 c = omega (arith, right-twice c.before.before.before.before.before.before.requires.0.degrees)
+sub-t19 c = omega (arith, right_twice c.before.before.before.before.before.before.requires.0.degrees)
 
 sub-t20 : tie.Need-overflow-sub-t20
-sub-t20 c = let d = c.before.before.before.before.before.before.requires.0.degrees in omega (arith, right-twice d, d.two_right)
+sub-t20 c = let d = c.before.before.before.before.before.before.requires.0.degrees in omega (arith, right_twice d, d.two_right)
 
 -- the root says no
 returns : tie.Need-returns
@@ -33,7 +33,7 @@ returns c = differs (root_apart c.before.before.before.before.before.before.requ
 upside-requires : tie.Need-upside-requires
 upside-requires c κs =
     let p = c.before.before.before.before.before.before.before.requires.0 in
-    (c.before.before.before.root.ensures.room.long, p.degrees.two_right, omega (arith, right-twice p.degrees, p.degrees.within))
+    (c.before.before.before.root.ensures.room.long, p.degrees.two_right, omega (arith, right_twice p.degrees, p.degrees.within))
 
 report-requires : tie.Need-report-requires
 report-requires c κs =

@@ -1,13 +1,13 @@
 use mathlib.Core.Path.{sym, ◌∙◌}
 use borrow.Author.Rules.{rules}
 use native.Mathlib.Omega.{arith}
-use Rattle.right.proofs.Columns.{right-twice}
+use Rattle.right.proofs.Columns.{right_twice}
 use Rattle.pair.proofs.Forcing.{asked_left, forced-refused, forced-found}
 use Rattle.pair.proofs.split_open.Statement.{statement}
 use Rattle.pair.proofs.split_open.Tie as tie
 
 upside-requires : tie.Need-upside-requires
-upside-requires c κs = let p = c.before.requires.0 in (p.room.long, p.degrees.two_right, omega (arith, right-twice p.degrees, p.degrees.within))
+upside-requires c κs = let p = c.before.requires.0 in (p.room.long, p.degrees.two_right, omega (arith, right_twice p.degrees, p.degrees.within))
 
 left-part-requires : tie.Need-left-part-requires
 left-part-requires c κs = let p = c.before.before.requires.0 in (asked_left p.modulus p.degrees p.whole (p.part c.upside.ensures), c.before.before.requires.1)

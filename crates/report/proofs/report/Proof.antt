@@ -1,85 +1,69 @@
-use mathlib.Core.Path.{sym, ap, ◌∙◌}
+use mathlib.Core.Path.{refl, sym, ap, ◌∙◌}
 use Prim.Native.Nat.{ℕ, ◌+◌}
 use native.Mathlib.Nat as N
 use native.Mathlib.Omega.{arith}
-use lib.ListN.{length-replicate}
+use borrow.Author.Rules.{rules}
+use lib.ListN.{length, drop, length-append}
+use lib.Seq.{length-take-le}
 use Rattle.algebra.specs.Polynomial.{terms, limit}
-use Rattle.halves.specs.Halves.{room}
-use Rattle.halves.proofs.Doubling.{half-doubled}
-use Rattle.left.proofs.Expanding.{powers_fit}
-use Rattle.report.specs.Rows.{most_words}
-use Rattle.report.proofs.Looking.{report_asked, looked_report}
+use Rattle.left.proofs.Found.{asked_division, asked_long}
+use Rattle.report.proofs.Reporting.{expanded_wide, expanded_front, digits_report}
 use Rattle.report.proofs.report.Statement.{statement}
 use Rattle.report.proofs.report.Tie as tie
 
-slice-aggregate-powers : tie.Need-slice-aggregate-powers
-unfolding room terms limit
-slice-aggregate-powers c = sym (length-replicate {A = ℕ} room 0)
+raise-requires : tie.Need-raise-requires
+raise-requires c κs =
+    let p = c.before.before.before.requires in
+    let k = c.before.before.at_once.ensures in
+    (p.1, p.0.right, refl, k.0, omega (arith, p.0.degrees.product, p.0.degrees.within, N.mul-le-mul_right c.before.before.before.args.s k.1))
 
-slice-aggregate-powers-2 : tie.Need-slice-aggregate-powers-2
-unfolding terms limit
-slice-aggregate-powers-2 c = sym c.before.before.requires.0.right.reduced.long
+slice-aggregate-all-digits : tie.Need-slice-aggregate-all-digits
+unfolding terms
+slice-aggregate-all-digits c = sym (length-take-le _ _ (omega (arith, c.before.before.before.before.before.before.requires.0.whole.within, c.before.before.before.before.before.before.requires.0.whole.reduced.long)))
 
-half-requires : tie.Need-half-requires
-half-requires c κs =
-    let p = c.before.before.requires.0 in
-    omega (arith, p.degrees.product, p.degrees.within, N.mul-le-mul_left {m = 1} {n = c.before.before.args.s} c.before.before.args.r (omega (arith, p.degrees.two_right)))
+all-digits-requires : tie.Need-all-digits-requires
+all-digits-requires c κs =
+    let p = c.before.before.before.before.before.before.before.before.requires in
+    (asked_division p.0, c.before.before.before.before.raise.ensures, c.before.before.before.before.before.before.before.at_once.ensures.0, omega (arith, asked_long p.0), p.1)
 
-powers-requires : tie.Need-powers-requires
-unfolding room terms limit
-powers-requires c κs =
-    let p = c.before.before.before.requires.0 in
-    let a = c.before.before.before.args in
-    rw c.half.ensures (c.before.before.before.requires.1, p.right, omega (arith, p.degrees.two_right), half-doubled a.r, (powers_fit p.degrees.two_left (ap (λ (x : ℕ). x + 1) (sym p.degrees.product)) (omega (arith, p.degrees.two_right)) (omega (arith, p.degrees.within))).1, length-replicate {A = ℕ} room 0)
+array-share-prefix-a : tie.Need-array-share-prefix-a
+array-share-prefix-a c = omega (arith, length-append c.before.all_digits.new.0 (drop (c.before.before.before.before.before.before.before.before.before.before.args.n + 1) c.before.before.before.before.before.before.before.before.before.before.args.f), expanded_wide c.before.before.before.before.before.before.before.before.before.before.requires.0 c.before.all_digits.ensures)
 
-slice-aggregate-lay : tie.Need-slice-aggregate-lay
-unfolding most_words terms limit
-slice-aggregate-lay c = sym (length-replicate {A = ℕ} most_words 0)
+slice-aggregate-highest : tie.Need-slice-aggregate-highest
+slice-aggregate-highest c =
+    let p = c.before.before.before.before.before.before.before.before.before.before.before.requires.0 in
+    let x = c.before.before.all_digits.ensures in
+    sym (ap length (expanded_front p x) ∙ expanded_wide p x)
 
-slice-aggregate-lay-2 : tie.Need-slice-aggregate-lay-2
-unfolding terms limit
-slice-aggregate-lay-2 c = sym c.before.before.before.before.before.before.before.requires.0.whole.reduced.long
-
-lay-requires : tie.Need-lay-requires
-unfolding most_words terms limit
-lay-requires c κs =
-    let p = c.before.before.before.before.before.before.before.requires.0 in
-    (omega (arith, p.whole.within, p.whole.reduced.long), omega (arith, p.degrees.within, length-replicate {A = ℕ} most_words 0))
-
-slice-aggregate-look : tie.Need-slice-aggregate-look
-unfolding most_words terms limit
-slice-aggregate-look c = sym (c.before.before.lay.ensures.long ∙ length-replicate {A = ℕ} most_words 0)
-
-slice-aggregate-look-2 : tie.Need-slice-aggregate-look-2
-unfolding room terms limit
-slice-aggregate-look-2 c = sym c.before.before.before.before.before.before.before.powers.ensures.0.long
-
-look-requires : tie.Need-look-requires
-unfolding most_words terms limit
-look-requires c κs =
-    let w = rw c.before.before.before.before.before.before.before.before.half.ensures at c.before.before.before.before.before.before.before.powers.ensures in
-    (report_asked c.before.before.before.before.before.before.before.before.before.before.before.requires.0 w.0 w.1 c.before.before.before.lay.ensures, c.before.before.before.before.before.before.before.before.before.before.before.requires.1)
+highest-requires : tie.Need-highest-requires
+highest-requires c κs =
+    let p = c.before.before.before.before.before.before.before.before.before.before.before.requires.0 in
+    let x = c.before.before.all_digits.ensures in
+    (ap length (expanded_front p x) ∙ expanded_wide p x ∙ ap (λ (k : ℕ). k + 1) (sym p.degrees.product), omega (arith, p.degrees.two_right), omega (arith, p.degrees.product, p.degrees.within))
 
 returns : tie.Need-returns
-unfolding most_words terms limit
 returns c =
-    let w = rw c.before.before.before.before.before.before.before.before.before.before.half.ensures at c.before.before.before.before.before.before.before.before.before.powers.ensures in
-    looked_report c.before.before.before.before.before.before.before.before.before.before.before.before.before.requires.0 w.0 w.1 c.before.before.before.before.before.lay.ensures c.before.look.ensures
+    let p = c.before.before.before.before.before.before.before.before.before.before.before.before.requires.0 in
+    let x = c.before.before.before.all_digits.ensures in
+    digits_report p x (rw (expanded_front p x) at c.highest.ensures)
 
 pub report-spec : {M : Type 1} → statement M
-unfolding most_words terms limit
+unfolding terms limit
 report-spec =
     tie.close
     (tie.spec
-    slice-aggregate-powers
-    slice-aggregate-powers-2
-    half-requires
-    powers-requires
-    slice-aggregate-lay
-    slice-aggregate-lay-2
-    (λ c. omega (arith, c.before.before.before.before.before.before.before.requires.0.degrees.within))
-    lay-requires
-    slice-aggregate-look
-    slice-aggregate-look-2
-    look-requires
+    (λ c κs. search rules)
+    (λ c. search rules)
+    (λ c. search rules)
+    raise-requires
+    (λ c. search rules)
+    (λ c. search rules)
+    slice-aggregate-all-digits
+    (λ c. search rules)
+    (λ c. search rules)
+    all-digits-requires
+    (λ c. search rules)
+    array-share-prefix-a
+    slice-aggregate-highest
+    highest-requires
     returns)

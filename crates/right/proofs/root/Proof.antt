@@ -5,7 +5,7 @@ use borrow.Author.Rules.{rules}
 use Rattle.algebra.specs.Polynomial.{limit, terms}
 use Rattle.binomial.specs.Triangle.{rows}
 use Rattle.right.specs.Rows.{words, Rows}
-use Rattle.right.proofs.Columns.{left-twice, right-twice, rows_none}
+use Rattle.right.proofs.Columns.{left_twice, right_twice, rows_none}
 use Rattle.right.proofs.Forcing.{rows_root}
 use Rattle.right.proofs.root.Statement.{statement}
 use Rattle.right.proofs.root.Tie as tie
@@ -18,15 +18,15 @@ decreases-loop t₀ f n r s u row m b k₀ k-end t k = k-end - k
 
 add-smaller : tie.Need-overflow-add-smaller invariant-loop decreases-loop
 unfolding limit
-add-smaller c = omega (arith, right-twice c.before.before.before.requires.0.degrees)
+add-smaller c = omega (arith, right_twice c.before.before.before.requires.0.degrees)
 
 binomials-requires : tie.Need-binomials-requires invariant-loop decreases-loop
 unfolding limit rows
-binomials-requires c κs = let p = c.before.before.before.before.requires in let q = left-twice p.0.degrees in let e = c.smaller.ensures in (p.3, omega arith, omega arith, p.0.inverse, rw e p.1)
+binomials-requires c κs = let p = c.before.before.before.before.requires in let q = left_twice p.0.degrees in let e = c.smaller.ensures in (p.3, omega arith, omega arith, p.0.inverse, rw e p.1)
 
 add-k-end : tie.Need-overflow-add-k-end invariant-loop decreases-loop
 unfolding limit
-add-k-end c = omega (arith, right-twice c.before.before.before.before.before.requires.0.degrees)
+add-k-end c = omega (arith, right_twice c.before.before.before.before.before.requires.0.degrees)
 
 loop-holds : tie.Need-loop-init invariant-loop decreases-loop
 loop-holds c = (omega arith, omega arith, refl, rows_none c.before.before.before.before.before.requires.2)
@@ -40,22 +40,22 @@ next-requires c κs = let p = c.before.before.before.before.before.before.before
 
 add-k : tie.Need-overflow-add-k invariant-loop decreases-loop
 unfolding limit
-add-k c = omega (arith, right-twice c.before.before.before.before.before.before.before.before.before.before.before.before.requires.0.degrees)
+add-k c = omega (arith, right_twice c.before.before.before.before.before.before.before.before.before.before.before.before.requires.0.degrees)
 
 loop-again : tie.Need-loop-preserved invariant-loop decreases-loop
 loop-again c = (omega arith, omega arith, refl, c.before.before.next.ensures)
 
 add-result : tie.Need-overflow-add-result invariant-loop decreases-loop
 unfolding limit
-add-result c = omega (arith, right-twice c.before.before.before.before.before.before.before.requires.0.degrees)
+add-result c = omega (arith, right_twice c.before.before.before.before.before.before.before.requires.0.degrees)
 
 mul-result : tie.Need-overflow-mul-result invariant-loop decreases-loop
 unfolding limit
-mul-result c = omega (arith, right-twice c.before.before.before.before.before.before.before.requires.0.degrees)
+mul-result c = omega (arith, right_twice c.before.before.before.before.before.before.before.requires.0.degrees)
 
 slice-read-result : tie.Need-slice-read-result invariant-loop decreases-loop
 unfolding limit terms words
-slice-read-result c = omega (arith, right-twice c.before.before.before.before.before.before.before.before.requires.0.degrees, c.before.before.loop.invariant.3.room.long)
+slice-read-result c = omega (arith, right_twice c.before.before.before.before.before.before.before.before.requires.0.degrees, c.before.before.loop.invariant.3.room.long)
 
 same_length : tie.Need-same-length invariant-loop decreases-loop
 same_length c = c.before.before.loop.invariant.3.room.long ∙ sym c.before.before.before.before.before.before.before.before.requires.2.long

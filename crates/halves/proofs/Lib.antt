@@ -1,4 +1,0 @@
-pub mod Doubling
-pub mod Mirror
-pub mod Raising
-pub mod Telling
