@@ -152,7 +152,7 @@ module _ {m : ℕ} (two : 2 ≤ m) where
 
   -- and a complete chain is built part by part
   cut_of : {n : ℕ} {f : List ℕ} (parts : List (List ℕ)) → 2 ≤ n → n < terms → Monic m n f → Reduced m f → CompleteChain m f parts → Cut m n f parts
-  cut_of [] tn l mon red c = absurd (no_parts tn mon c)
+  cut_of {n} [] tn l mon red c = absurd (no_parts tn mon c)
   cut_of {n} {f} (p ∷ []) tn l mon red c = subst (λ (q : List ℕ). Cut m n f (q ∷ [])) is (one tn mon red (rw is (c.unsplit 0 (omega arith))))
     where
       is : f ≡ p
@@ -160,7 +160,7 @@ module _ {m : ℕ} (two : 2 ≤ m) where
   cut_of {n} {f} (h ∷ p ∷ parts) tn l mon red c =
       let (a, b, e, k) = complete-degrees mon c in
       let q = complete-pair (omega arith) c in
-      more {parts = p ∷ parts} a b e q (c.unsplit 0 (omega arith)) (cut_of (p ∷ parts) a (omega arith) q.pair.left q.reduced_left (complete-rest (omega arith) c))
+      more {parts = p ∷ parts} a b e q (c.unsplit 0 (omega arith)) (cut_of {n = product (degrees (p ∷ parts))} (p ∷ parts) a (omega arith) q.pair.left q.reduced_left (complete-rest (omega arith) c))
 
   -- the degree of a right part
   pub right-degree : {r s : ℕ} {f g h : List ℕ} → NormalPair m f r s g h → degree h ≡ s

@@ -1,4 +1,6 @@
 // The chain area: places for the parts of a chain in the caller's memory.
+#![tactic(auto)]
+
 ghost use Rattle.std.specs.Prelude.{◌≡◌, ◌<◌, ◌≤◌, length};
 ghost use Rattle.algebra.specs.Polynomial.{terms};
 ghost use Rattle.area.specs.Area.{most_parts, area_words, start as start_of, put_at, cleared, all_zero, part_of};

@@ -2,6 +2,8 @@
 //
 // A constant array is written out anew wherever it is named, so who wants many rows fetches the table once and lends it down, and who
 // wants one row works that out by Pascal's rule.
+#![tactic(auto)]
+
 ghost use Rattle.std.specs.Prelude.{◌≡◌, ◌+◌, ◌*◌, ◌/◌, ◌<◌};
 ghost use Rattle.binomial.specs.Triangle.{rows, triangle, HasRow};
 

@@ -1,5 +1,7 @@
 // A polynomial as it is built from a text: sums, products and powers modulo m, and whether one of them went above the limit.
 // A product goes as far as the degrees of its factors, so the degree is kept beside the coefficients.
+#![tactic(auto)]
+
 ghost use Rattle.std.specs.Prelude.{◌≡◌, true, false, ◌+◌, ◌-◌, ◌*◌, ◌%◌, ◌≤◌, min, max};
 ghost use Rattle.algebra.specs.Polynomial.{coef, plus, scaled, times, limit, degree as degree_of};
 ghost use Rattle.reciprocal.specs.Ready.{Ready};

@@ -1,4 +1,6 @@
 // Every complete chain of f: how many there are, and the j-th of them in a lent area.
+#![tactic(auto)]
+
 ghost use Rattle.std.specs.Prelude.{◌≡◌, ◌≤◌, length};
 ghost use Rattle.reciprocal.specs.Ready.{Ready};
 ghost use Rattle.polynomial.specs.Moduli.{modulus};

@@ -3,6 +3,8 @@
 //   Change                 a type with its identity; make, combine, undo
 //   change_polynomial      a^(-n)·f(a·x + b)
 //   change_pair            h' = a^(-s)·(h(a·x + b) - h(b)), g' = a^(-n)·g(a^s·x + h(b))
+#![tactic(auto)]
+
 ghost use Rattle.std.specs.Prelude.{◌≡◌, ◌<◌};
 ghost use Rattle.algebra.specs.Number.{Modulus};
 ghost use Rattle.polynomial.specs.Moduli.{modulus};

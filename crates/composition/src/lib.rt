@@ -1,5 +1,7 @@
 // The composition g(h) by Horner's rule: g's coefficients from the top, each added to h times what there is so far.
 // A step is in place, from the top power down, so that what is read is not written yet.
+#![tactic(auto)]
+
 ghost use Rattle.std.specs.Prelude.{◌≡◌, [], ◌∷◌};
 ghost use Rattle.algebra.specs.Polynomial.{plus, times, reduced};
 ghost use Rattle.reciprocal.specs.Ready.{Ready};

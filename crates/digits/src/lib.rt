@@ -1,4 +1,6 @@
 // The decimal digits of a number, put into a buffer.
+#![tactic(auto)]
+
 ghost use Rattle.std.specs.Prelude.{◌+◌, ◌≤◌, length};
 ghost use Rattle.digits.specs.Digits.{most_digits, decimal, Put};
 

@@ -1,5 +1,7 @@
 // Division by h with remainder (document 001, 3.1; true remainders, since its r_i = q_i(0) wants h(0) = 0), in place, and h^k for
 // divisions that take k digits at once. The left part and the report take a polynomial's digits in powers of h by it.
+#![tactic(auto)]
+
 ghost use Rattle.std.specs.Prelude.{◌≡◌, ◌*◌, ◌≤◌, ◌<◌, length};
 ghost use Rattle.algebra.specs.Polynomial.{limit, Held};
 ghost use Rattle.reciprocal.specs.Ready.{Ready};

@@ -1,4 +1,6 @@
 // The rightmost parts of complete chains: at one right degree, the right part of f if it does not split.
+#![tactic(auto)]
+
 ghost use Rattle.std.specs.Prelude.{◌≡◌, ◌/◌};
 ghost use Rattle.reciprocal.specs.Ready.{Ready};
 ghost use Rattle.polynomial.specs.Degrees.{Degrees};

@@ -3,6 +3,8 @@
 //   two_products        a*x + b*y
 //   inner_product       a[lo]*b[k-lo] + .. + a[hi-1]*b[k-hi+1]
 //   strided_product     a[lo]*b[at] + a[lo+1]*b[at+step] + ..: the same of numbers that lie apart
+#![tactic(auto)]
+
 ghost use Rattle.std.specs.Prelude.{◌≡◌, ◌+◌, ◌-◌, ◌*◌, ◌%◌, ◌^◌, ◌≤◌, ◌<◌, length};
 ghost use Rattle.reciprocal.specs.Ready.{Ready};
 ghost use Rattle.inner.specs.Inner.{inner, Within, strided, Strides};

@@ -1,4 +1,6 @@
 // The inverse of a number modulo m, prime or not, or the greatest common factor that is in the way.
+#![tactic(auto)]
+
 ghost use Rattle.std.specs.Prelude.{◌≡◌, ◌+◌, ◌%◌, ◌<◌};
 ghost use Rattle.algebra.specs.Number.{Modulus};
 ghost use Rattle.inverse.specs.Inverse.{InverseIs};

@@ -2,6 +2,8 @@
 // since its r_i = q_i(0) wants h(0) = 0): the remainders are the digits of f in powers of h. f = g(h) exactly if every digit is
 // a constant, and then they are the coefficients of g. One list holds the digits found and, above them, the quotient still to
 // be divided. Where there are many digits some are taken at once, by a division by h^k, and told apart by divisions by h.
+#![tactic(auto)]
+
 ghost use Rattle.std.specs.Prelude.{◌≡◌, ℕ, ◌+◌, ◌*◌, ◌≤◌, ◌<◌, length};
 ghost use Rattle.algebra.specs.Number.{table};
 ghost use Rattle.algebra.specs.Polynomial.{coef, limit, terms, Held};

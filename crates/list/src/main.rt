@@ -1,4 +1,6 @@
 // Lists the records of standard input, a line for each, and stops reading after 1,000,000.
+#![tactic(auto)]
+
 ghost use Rattle.std.specs.Prelude.{◌≡◌, ◌+◌, ◌%◌, ◌<◌, ◌≤◌, length};
 ghost use Rattle.binomial.specs.Triangle.{rows, triangle};
 ghost use Rattle.record.specs.Record.{record_bytes};

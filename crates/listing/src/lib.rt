@@ -1,4 +1,6 @@
 // The listing: the lines of text for records.
+#![tactic(auto)]
+
 ghost use Rattle.std.specs.Prelude.{◌≡◌, [], ◌∷◌, ◌++◌, ◌+◌, ◌*◌, ◌<◌, ◌≤◌, ◌^◌, length};
 ghost use Rattle.refusal.specs.Refusal.{number_of};
 ghost use Rattle.algebra.specs.Number.{table};

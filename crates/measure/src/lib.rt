@@ -1,4 +1,6 @@
 // The leaves that the benchmark times, for Rust. Nothing is promised of what they answer; that they are safe and end is proved.
+#![tactic(auto)]
+
 use reciprocal::MACHINE_WORDS;
 
 // The first out.len() coefficients of a product: inner products of every length from 1 on. Where the leaf's requirements do

@@ -1,4 +1,6 @@
 // A polynomial and a pair after a·x + b, by the inverse of a: what a change makes of them once it is tested.
+#![tactic(auto)]
+
 ghost use Rattle.std.specs.Prelude.{◌≡◌, length};
 ghost use Rattle.algebra.specs.Polynomial.{scaled, terms, reduced, Held};
 ghost use Rattle.reciprocal.specs.Ready.{Ready};

@@ -1,4 +1,6 @@
 // The digits of a number and of a power in a text.
+#![tactic(auto)]
+
 ghost use Rattle.std.specs.Prelude.{◌≡◌, true, false, ◌-◌, ◌≤◌, ◌<◌, length, get_or};
 ghost use Rattle.text.specs.Grammar.{zero_byte, nine_byte};
 ghost use Rattle.numeral.specs.Counting.{Counts, CountsPower};

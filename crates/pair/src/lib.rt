@@ -1,4 +1,6 @@
 // The operations on pairs: compose, left part, split, and the quick question whether there is a pair.
+#![tactic(auto)]
+
 ghost use Rattle.std.specs.Prelude.{◌≡◌, min, ◌+◌, ◌*◌, ◌%◌, ◌<◌};
 ghost use Rattle.polynomial.specs.Moduli.{modulus};
 ghost use Rattle.polynomial.specs.Checks.{Measured};

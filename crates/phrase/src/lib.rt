@@ -1,4 +1,6 @@
 // What the readers of a text hand on, and their steps that call no other reader.
+#![tactic(auto)]
+
 ghost use Rattle.std.specs.Prelude.{◌≡◌, true, false, ◌⊎◌, List, ℕ, ◌+◌, ◌<◌, length, get_or};
 ghost use Rattle.reciprocal.specs.Ready.{Ready};
 ghost use Rattle.polynomial.specs.Checks.{Measured};

@@ -1,4 +1,6 @@
 // A polynomial of the desk: its limit, its degree, and the checks 1 to 4 of 01 in their order.
+#![tactic(auto)]
+
 ghost use Rattle.std.specs.Prelude.{◌≡◌, min};
 ghost use Rattle.algebra.specs.Polynomial.{degree as degree_of};
 ghost use Rattle.polynomial.specs.Moduli.{modulus as modulus_of, check_modulus};

@@ -1,4 +1,6 @@
 // What programs that read records share: standard input comes in pieces, and of a record that is not whole yet the bytes are kept.
+#![tactic(auto)]
+
 ghost use Rattle.std.specs.Prelude.{◌≡◌, ◌+◌, ◌<◌, ◌≤◌, length};
 ghost use Rattle.record.specs.Record.{record_bytes};
 ghost use Rattle.reading.specs.Reading.{most_read, MayRead, Came, number_after, upto, to_front};

@@ -4,6 +4,8 @@
 //   remainder, near         a number modulo m, and one that is congruent to it and below 2m
 //   whole, high             the product of two words of 32 bits, and the high word of a product of 64
 //   carry                   what 2^64 counts modulo m
+#![tactic(auto)]
+
 ghost use Rattle.std.specs.Prelude.{◌≡◌, ◌+◌, ◌-◌, ◌*◌, ◌/◌, ◌%◌, ◌^◌, ◌≤◌, ◌<◌};
 ghost use Rattle.algebra.specs.Number.{Modulus};
 ghost use Rattle.reciprocal.specs.Ready.{Ready};
@@ -12,7 +14,7 @@ ghost use Rattle.reciprocal.specs.Ready.{Ready};
 pub const MACHINE_WORDS: u64 = 0x1_0000_0000;
 
 // A modulus made ready: the number, and its reciprocal, so that no sum or product is divided by it.
-#[derive(Drop)]
+#[derive(Clone, Copy)]
 pub struct Divisor {
     pub number: u64,
     pub reciprocal: u64,

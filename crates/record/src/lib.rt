@@ -1,4 +1,6 @@
 // The record check: the bytes of a record to a modulus, a polynomial and its degree, or a refusal.
+#![tactic(auto)]
+
 ghost use Rattle.std.specs.Prelude.{◌≡◌, ◌+◌, ◌*◌, ◌≤◌, ◌<◌, length};
 ghost use Rattle.record.specs.Record.{word as word_of, record_bytes, coefficients as coefficients_of, no_record as no_record_of, checked};
 

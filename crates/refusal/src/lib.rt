@@ -1,4 +1,6 @@
 // A refusal: why, and which polynomial it concerns. specs/Refusal gives 01's number, polynomial and power for each case.
+#![tactic(auto)]
+
 ghost use Rattle.std.specs.Prelude.{◌≡◌};
 ghost use Rattle.refusal.specs.Refusal.{is_refused, refusal, number as number_of, polynomial as polynomial_of, power as power_of};
 

@@ -1,5 +1,7 @@
 // The report (request No. 7): the highest power at which f and g(h) differ, for the forced left part g. It takes all digits of f in
 // powers of h, constants or not: the highest that is none tells that power. Some are taken at once, as for the left part.
+#![tactic(auto)]
+
 ghost use Rattle.std.specs.Prelude.{◌≡◌, ◌+◌, ◌*◌, ◌≤◌, ◌<◌, length};
 ghost use Rattle.algebra.specs.Polynomial.{limit};
 ghost use Rattle.reciprocal.specs.Ready.{Ready};

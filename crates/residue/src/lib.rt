@@ -2,6 +2,8 @@
 //
 // At the modulus 2^32 sums, differences and products run round in a machine word (add_words and the like), so that there is
 // nothing to reduce.
+#![tactic(auto)]
+
 ghost use Rattle.std.specs.Prelude.{◌≡◌, ◌+◌, ◌-◌, ◌*◌, ◌%◌, ◌^◌, ◌<◌, ◌≤◌};
 ghost use Rattle.algebra.specs.Number.{Modulus};
 ghost use Rattle.reciprocal.specs.Ready.{Ready};

@@ -6,6 +6,8 @@
 //
 // The same columns go on for two places past h: they are the r-th root of f from the top. If f = g(h), the root is h + g_(r-1)/r
 // as far as place 2s - 1, so its place s + 1 is 0; where it is not, the forced pair and f differ at x^(n-s-1).
+#![tactic(auto)]
+
 ghost use Rattle.std.specs.Prelude.{◌≡◌, min, ◌+◌, ◌*◌, ◌%◌, ◌≤◌, ◌<◌, length};
 ghost use Rattle.algebra.specs.Polynomial.{limit, Reduced};
 ghost use Rattle.reciprocal.specs.Ready.{Ready};

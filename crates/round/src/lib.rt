@@ -1,4 +1,6 @@
 // A round over the right degrees: the first at which f splits, and the tries. The chain goes round by round.
+#![tactic(auto)]
+
 ghost use Rattle.std.specs.Prelude.{◌≡◌, ◌*◌, ◌%◌};
 ghost use Rattle.algebra.specs.Number.{Coprime, Modulus};
 ghost use Rattle.reciprocal.specs.Ready.{Ready};

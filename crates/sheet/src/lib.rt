@@ -1,4 +1,6 @@
 // Chain sheets: the parts of a chain as records, left to right. What a sheet is, what its reader and its writer answer, and the laws. No function.
+#![tactic(auto)]
+
 use polynomial::Coefficients;
 use refusal::Outcome;
 

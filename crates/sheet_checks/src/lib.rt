@@ -1,4 +1,6 @@
 // Chain sheets: the refusals that the writer and the reader share, by the places of an area.
+#![tactic(auto)]
+
 ghost use Rattle.std.specs.Prelude.{◌≡◌, ◌+◌, ◌*◌, ◌≤◌, ◌<◌, length};
 ghost use Rattle.algebra.specs.Polynomial.{limit};
 ghost use Rattle.algebra.specs.Chain.{degrees, product};

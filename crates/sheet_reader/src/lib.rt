@@ -1,4 +1,6 @@
 // Chain sheets: the reader, which composes the parts.
+#![tactic(auto)]
+
 ghost use Rattle.std.specs.Prelude.{◌≡◌, ◌∷◌, ◌+◌, ◌-◌, ◌≤◌, ◌<◌, length, replicate};
 ghost use Rattle.algebra.specs.Polynomial.{limit, reduced};
 ghost use Rattle.algebra.specs.Chain.{composed};

@@ -1,4 +1,6 @@
 // Chain sheets: the records, taken into an area, each with its own 1 to 4, and their moduli.
+#![tactic(auto)]
+
 ghost use Rattle.std.specs.Prelude.{◌≡◌, not, ◌&&◌, ◌∷◌, ◌≤◌, ◌<◌, eqb, length};
 ghost use Rattle.algebra.specs.Polynomial.{terms};
 ghost use Rattle.refusal.specs.Refusal.{refuse as refuse_if};

@@ -1,4 +1,6 @@
 // Chain sheets: the writer.
+#![tactic(auto)]
+
 ghost use Rattle.std.specs.Prelude.{◌≡◌, ◌++◌, ◌+◌, ◌*◌, ◌≤◌, ◌<◌, length, drop, replicate};
 ghost use Rattle.algebra.specs.Polynomial.{terms};
 ghost use Rattle.area.specs.Area.{most_parts, area_words, place};

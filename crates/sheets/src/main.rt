@@ -1,4 +1,6 @@
 // Writes the sheet of each record of standard input, zero bytes for a refused one, and stops reading after 1,000,000.
+#![tactic(auto)]
+
 ghost use Rattle.std.specs.Prelude.{◌≡◌, ◌+◌, ◌*◌, ◌%◌, ◌<◌, ◌≤◌, length};
 ghost use Rattle.record.specs.Record.{record_bytes};
 ghost use Rattle.sheet.specs.Sheet.{sheet_bytes};

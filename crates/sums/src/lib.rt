@@ -1,4 +1,6 @@
 // The readers of a text: of sums, products, factors and bases, which call each other.
+#![tactic(auto)]
+
 ghost use Rattle.reciprocal.specs.Ready.{Ready};
 ghost use Rattle.phrase.specs.Reading.{Phrase, Reads};
 

@@ -1,4 +1,6 @@
 // Typed polynomials: the operation read.
+#![tactic(auto)]
+
 ghost use Rattle.std.specs.Prelude.{◌≡◌};
 ghost use Rattle.refusal.specs.Refusal.{refusal};
 ghost use Rattle.refusal.specs.declared.Concerns.TheVariants.{Neither};

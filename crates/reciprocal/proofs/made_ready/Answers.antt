@@ -1,0 +1,7 @@
+use mathlib.Core.Path.{refl}
+use borrow.Author.Rules.{rules}
+use Rattle.reciprocal.specs.Ready.{reciprocal}
+use Rattle.reciprocal.proofs.made_ready.Goals as goal
+
+pub returns : goal.returns
+returns c = (refl, record { modulus = c.requires; beside = reciprocal refl })
