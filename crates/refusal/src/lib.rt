@@ -5,7 +5,7 @@ ghost use Rattle.std.specs.Prelude.{◌≡◌};
 ghost use Rattle.refusal.specs.Refusal.{is_refused, refusal, number as number_of, polynomial as polynomial_of, power as power_of};
 
 // Which polynomial a refusal concerns: by its role, or by its place on a sheet, counted from 0.
-#[derive(Drop)]
+#[derive(Clone, Copy)]
 pub enum Concerns {
     Neither,
     First,
@@ -14,7 +14,7 @@ pub enum Concerns {
 }
 
 // Why, in the order of 01's table, Nos. 1 to 11, then those of 02. No. 2 carries the lowest offending power of x.
-#[derive(Drop)]
+#[derive(Clone, Copy)]
 pub enum Reason {
     Modulus,
     Coefficient(u32),
@@ -33,14 +33,14 @@ pub enum Reason {
     Beyond,
 }
 
-#[derive(Drop)]
+#[derive(Clone, Copy)]
 pub struct Refusal {
     pub concerns: Concerns,
     pub reason: Reason,
 }
 
 // What an operation says beside its answer.
-#[derive(Drop)]
+#[derive(Clone, Copy)]
 pub enum Outcome {
     Answered,
     Refused(Refusal),

@@ -1,0 +1,17 @@
+use mathlib.Core.Path.{◌≡◌, sym, ◌∙◌}
+use mathlib.Core.List.{[], ◌∷◌}
+use Prim.Native.Nat.{◌%◌, ◌≤◌}
+use native.Mathlib.Omega.{arith}
+use borrow.Author.Rules.{rules}
+use lib.ListN.{length-set}
+use Rattle.algebra.specs.Polynomial.{coef, plus, times, limit, terms, reduced}
+use Rattle.polynomial.proofs.Filling.{Down, down-none, down-more, down-all}
+use Rattle.composition.proofs.Horner.{step-first, step_next, step_past}
+use Rattle.composition.proofs.step.Given as goal
+
+-- the places above k are the step's, and the others still as they were
+abbrev pub invariant-loop-k : goal.invariant-loop-k
+invariant-loop-k l = (l.k ≤ l.d) × Down terms (λ j. coef (plus (l.c ∷ []) (times l.h l.initial.p)) j % l.m.number) l.k l.initial.p l.p
+
+abbrev pub decreases-loop-k : goal.decreases-loop-k
+decreases-loop-k l = l.k

@@ -1,0 +1,14 @@
+use mathlib.Core.Path.{◌≡◌}
+use Prim.Native.Nat.{◌-◌, ◌≤◌}
+use native.Mathlib.Omega.{arith}
+use borrow.Author.Rules.{rules}
+use Rattle.inner.specs.Inner.{inner}
+use Rattle.inner.proofs.Inner.{inner_start, inner_next}
+use Rattle.inner.proofs.Words.{Widened, widened_none, widened_more, widened_room, widened_mod}
+use Rattle.inner.proofs.inner_product.Given as goal
+
+abbrev pub invariant-loop-i : goal.invariant-loop-i
+invariant-loop-i l = (l.lo ≤ l.i) × (l.i ≤ l.hi) × Widened (l.i - l.lo) l.w.high l.w.low (inner l.a l.b l.k l.lo (l.i - l.lo))
+
+abbrev pub decreases-loop-i : goal.decreases-loop-i
+decreases-loop-i l = l.hi - l.i

@@ -1,0 +1,14 @@
+use mathlib.Core.Path.{◌≡◌}
+use Prim.Native.Nat.{◌+◌, ◌-◌, ◌*◌, ◌^◌, ◌≤◌, ◌<◌}
+use native.Mathlib.Omega.{arith}
+use borrow.Author.Rules.{rules}
+use Rattle.inner.specs.Inner.{strided}
+use Rattle.inner.proofs.Inner.{strided-start, strided_next, stride-start, stride-inside, stride_next}
+use Rattle.inner.proofs.Words.{Widened, widened_none, widened_more, widened_room, widened_mod}
+use Rattle.inner.proofs.strided_product.Given as goal
+
+abbrev pub invariant-loop-i : goal.invariant-loop-i
+invariant-loop-i l = (l.lo ≤ l.i) × (l.i ≤ l.hi) × (l.j ≡ l.at + (l.i - l.lo) * l.step) × (l.j < 2 ^ 62) × Widened (l.i - l.lo) l.w.high l.w.low (strided l.a l.b l.lo l.at l.step (l.i - l.lo))
+
+abbrev pub decreases-loop-i : goal.decreases-loop-i
+decreases-loop-i l = l.hi - l.i
