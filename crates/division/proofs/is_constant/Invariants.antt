@@ -1,0 +1,22 @@
+use mathlib.Core.Path.{◌≡◌, sym}
+use mathlib.Core.Bool.{true≢false}
+use mathlib.Core.Logic.{⊎_elim}
+use mathlib.Core.List.{List}
+use Prim.Native.Nat.{ℕ, ◌+◌, ◌-◌, ◌≤◌, ◌<◌}
+use native.Mathlib.Nat as N
+use native.Mathlib.Omega.{arith}
+use native.Mathlib.Decide.{dec_lt}
+use borrow.Author.Rules.{rules}
+use lib.ListN.{length, get_or-eq_default}
+use Rattle.algebra.specs.Polynomial.{coef}
+use Rattle.division.proofs.is_constant.Given as goal
+
+-- nothing from x^1 up to place i
+abbrev pub Flat : List ℕ → ℕ → Type 0
+Flat p i = (k : ℕ) → 0 < k → k < i → coef p k ≡ 0
+
+abbrev pub invariant-loop-i : goal.invariant-loop-i
+invariant-loop-i l = (0 < l.i) × Flat l.p l.i
+
+abbrev pub decreases-loop-i : goal.decreases-loop-i
+decreases-loop-i l = length l.p - l.i

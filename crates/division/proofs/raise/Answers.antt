@@ -1,0 +1,37 @@
+use mathlib.Core.Path.{◌≡◌}
+use Prim.Native.Nat.{◌-◌, ◌≤◌}
+use native.Mathlib.Omega.{arith}
+use borrow.Author.Rules.{rules}
+use Rattle.algebra.specs.Polynomial.{limit}
+use Rattle.division.specs.Division.{Raised}
+use Rattle.division.proofs.Raising.{raised-one, raised-room, raised-more}
+use Rattle.division.proofs.raise.Goals as goal
+
+pub loop-i-init : goal.loop-i-init
+loop-i-init c =
+    let p = c.requires in
+    (omega arith, rw p.2 (raised-one (omega (arith, p.0.modulus.above_one)) p.1))
+
+pub overflow_mul-i : goal.overflow_mul-i
+unfolding limit
+overflow_mul-i c =
+    let p = c.requires in
+    let l = c.loop-i in
+    omega (arith, (raised-room (omega (arith, p.0.modulus.above_one)) p.1 c.loop-i-test.true p.4 l.invariant.1).within)
+
+pub step-requires : goal.step-requires
+step-requires c =
+    let p = c.requires in
+    let l = c.loop-i in
+    (p.0, raised-room (omega (arith, p.0.modulus.above_one)) p.1 c.loop-i-test.true p.4 l.invariant.1)
+
+pub loop-i-preserved : goal.loop-i-preserved
+loop-i-preserved c =
+    let p = c.requires in
+    let l = c.loop-i in
+    (omega arith, raised-more (omega (arith, p.0.modulus.above_one)) p.1 c.loop-i-test.true p.4 l.invariant.1 c.step.ensures)
+
+pub returns : goal.returns
+returns c =
+    let e : c.loop-i.i ≡ c.args.k = omega arith in
+    rw e at c.loop-i.invariant.1

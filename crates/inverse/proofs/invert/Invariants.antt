@@ -1,0 +1,12 @@
+use native.Mathlib.Nat.{mod-lt, le_trans, div-le_self}
+use native.Mathlib.Omega.{arith}
+use borrow.Author.Rules.{rules}
+use Rattle.inverse.proofs.Euclid.{Euclid, begins, next, inverted, ends}
+use Rattle.algebra.proofs.Sizes.{product-fits}
+use Rattle.inverse.proofs.invert.Given as goal
+
+abbrev pub invariant-loop-y : goal.invariant-loop-y
+invariant-loop-y l = Euclid l.a l.m l.x l.y l.s l.t
+
+abbrev pub decreases-loop-y : goal.decreases-loop-y
+decreases-loop-y l = l.y

@@ -1,0 +1,16 @@
+use mathlib.Core.Path.{◌≡◌, refl, sym, ◌∙◌}
+use Prim.Native.Nat.{◌+◌, ◌-◌, ◌≤◌}
+use native.Mathlib.Omega.{arith}
+use borrow.Author.Rules.{rules}
+use Rattle.algebra.specs.Polynomial.{limit, terms}
+use Rattle.binomial.specs.Triangle.{rows}
+use Rattle.right.specs.Rows.{words, Rows}
+use Rattle.right.proofs.Columns.{left_twice, right_twice, rows_none}
+use Rattle.right.proofs.Forcing.{rows_root}
+use Rattle.right.proofs.root.Given as goal
+
+abbrev pub invariant-loop-k : goal.invariant-loop-k
+invariant-loop-k l = (1 ≤ l.k) × (l.k ≤ l.k-end) × (l.k-end ≡ l.s + 2) × Rows l.m.number l.f l.n l.r (l.s + 2) l.b l.k l.t
+
+abbrev pub decreases-loop-k : goal.decreases-loop-k
+decreases-loop-k l = l.k-end - l.k

@@ -1,0 +1,12 @@
+use Prim.Native.Nat.{◌-◌, ◌≤◌}
+use native.Mathlib.Omega.{arith}
+use Rattle.algebra.specs.Polynomial.{limit, terms}
+use Rattle.right.specs.Rows.{words}
+use Rattle.right.proofs.Turning.{Turned, turned_none, turned_more, turned-end}
+use Rattle.right.proofs.upside.Given as goal
+
+abbrev pub invariant-loop-k : goal.invariant-loop-k
+invariant-loop-k l = (1 ≤ l.k) × (l.k ≤ l.s) × Turned l.s l.k l.t l.h
+
+abbrev pub decreases-loop-k : goal.decreases-loop-k
+decreases-loop-k l = l.s - l.k
