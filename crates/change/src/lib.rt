@@ -18,21 +18,21 @@ use reciprocal::Divisor;
 use refusal::{Concerns, Outcome, Reason};
 
 // x becomes unit * x + origin.
-#[derive(Drop)]
+#[derive(Clone, Copy)]
 pub struct Change {
     pub unit: u32,
     pub origin: u32,
 }
 
 // What combining and undoing answer: (1, 0) after a refusal.
-#[derive(Drop)]
+#[derive(Clone, Copy)]
 pub struct Made {
     pub outcome: Outcome,
     pub change: Change,
 }
 
 // Whether a change is proper, and the inverse of its unit.
-#[derive(Drop)]
+#[derive(Clone, Copy)]
 struct Tested {
     proper: bool,
     inverse: u32,

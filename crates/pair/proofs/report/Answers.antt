@@ -1,0 +1,44 @@
+use mathlib.Core.Path.{refl, sym, ap, ◌∙◌}
+use Prim.Native.Nat.{ℕ, ◌%◌}
+use native.Mathlib.Nat.{mul_comm, mod-eq_of_lt}
+use native.Mathlib.Omega.{arith}
+use borrow.Author.Rules.{rules}
+use borrow.Author.Tests.{not-true}
+use Rattle.algebra.specs.Polynomial.{limit, terms}
+use Rattle.right.specs.Rows.{words}
+use Rattle.right.proofs.Columns.{right_twice, room-none}
+use Rattle.pair.specs.Asking.{differs}
+use Rattle.pair.proofs.Forcing.{asked_root, asked_left, root_apart, report_told}
+use Rattle.pair.proofs.report.Goals as goal
+
+pub root-requires : goal.root-requires
+unfolding words terms limit
+root-requires c =
+    let p = c.requires in
+    let a = c.args in
+    let unit = ap (λ (x : ℕ). x % a.m.number) (mul_comm a.u a.r) ∙ p.2 ∙ sym (mod-eq_of_lt p.0.modulus.above_one) in
+    (asked_root p.0 unit, p.1, room-none (omega (arith, p.0.modulus.above_one)), p.3)
+
+pub overflow_sub-result : goal.overflow_sub-result
+overflow_sub-result c = omega (arith, right_twice c.requires.0.degrees)
+
+pub overflow_sub-result-then-not-root : goal.overflow_sub-result-then-not-root
+overflow_sub-result-then-not-root c = let d = c.requires.0.degrees in omega (arith, right_twice d, d.two_right)
+
+-- the root says no
+pub returns-then-not-root : goal.returns-then-not-root
+returns-then-not-root c = differs (root_apart c.requires.0 c.root.ensures c.if-not-root.true refl) refl
+
+pub upside-h-requires : goal.upside-h-requires
+upside-h-requires c =
+    let p = c.requires.0 in
+    (c.root.ensures.room.long, p.degrees.two_right, omega (arith, right_twice p.degrees, p.degrees.within))
+
+pub report-power-requires : goal.report-power-requires
+report-power-requires c =
+    let p = c.requires in
+    (asked_left p.0.modulus p.0.degrees p.0.whole (c.root.ensures.part c.upside-h.ensures), p.3)
+
+-- the digits tell
+pub returns : goal.returns
+returns c = let p = c.requires.0 in report_told (omega (arith, p.modulus.above_one)) (c.root.ensures.part c.upside-h.ensures) c.report-power.ensures
