@@ -1,0 +1,54 @@
+use mathlib.Core.Path.{sym, ◌∙◌}
+use Prim.Native.Nat.{◌+◌, ◌-◌, ◌/◌, ◌≤◌}
+use native.Mathlib.Omega.{arith}
+use borrow.Author.Rules.{rules}
+use borrow.Author.Tests.{not-true, not-false}
+use Rattle.algebra.specs.Polynomial.{terms, limit}
+use Rattle.right.specs.Rows.{words, Space}
+use Rattle.right.proofs.Columns.{room-none}
+use Rattle.round.proofs.Rounds.{Passed, passed_none, passed-few, passed_over, passed_missed, passed_hit, passed-all, asked_at, coprime-at, open_at, none-at, hit, miss}
+use Rattle.round.proofs.first_split.Goals as goal
+
+pub loop-s-init : goal.loop-s-init
+unfolding words terms limit
+loop-s-init c = (passed_none _ _ _, omega (arith, c.requires.0.two), room-none (omega (arith, c.requires.0.modulus.above_one)))
+
+-- s does not divide n
+pub loop-s-preserved-then-n-s-ne0 : goal.loop-s-preserved-then-n-s-ne0
+loop-s-preserved-then-n-s-ne0 c = (passed_over c.loop-s.invariant.0 c.if-n-s-ne0.true, omega arith, c.loop-s.invariant.2)
+
+-- there are fewer tries than right degrees
+pub overflow_add-tries : goal.overflow_add-tries
+overflow_add-tries c = omega (arith, passed-few c.loop-s.invariant.0)
+
+pub slice_bounds-is_open-end : goal.slice_bounds-is_open-end
+unfolding words terms limit
+slice_bounds-is_open-end c = sym c.loop-s.invariant.2.long
+
+pub slice_bounds-is_open-end-in-loop-s : goal.slice_bounds-is_open-end-in-loop-s
+unfolding terms limit
+slice_bounds-is_open-end-in-loop-s c = sym c.requires.0.whole.reduced.long
+
+pub is_open-requires : goal.is_open-requires
+is_open-requires c = (asked_at c.requires.0 c.loop-s.invariant.0.two c.if-n-s-ne0.false (omega arith), c.requires.0.binomials, c.requires.1, c.loop-s.invariant.2, c.requires.2)
+
+-- the quick question says no
+pub loop-s-preserved-then-not-is_open : goal.loop-s-preserved-then-not-is_open
+loop-s-preserved-then-not-is_open c = (passed_missed c.loop-s.invariant.0 c.if-n-s-ne0.false (none-at c.requires.0 c.loop-s.invariant.0.two c.if-n-s-ne0.false (omega arith) c.is_open.ensures c.if-not-is_open.true), omega arith, c.is_open.ensures.room)
+
+pub slice_bounds-split_open-end : goal.slice_bounds-split_open-end
+unfolding words terms limit
+slice_bounds-split_open-end c = sym c.is_open.ensures.room.long
+
+pub split_open-a-requires : goal.split_open-a-requires
+split_open-a-requires c = (open_at c.requires.0 c.loop-s.invariant.0.two c.if-n-s-ne0.false (omega arith) c.is_open.ensures, c.requires.2)
+
+pub returns-then-not-refuses : goal.returns-then-not-refuses
+returns-then-not-refuses c = passed_hit c.loop-s.invariant.0 c.if-n-s-ne0.false (asked_at c.requires.0 c.loop-s.invariant.0.two c.if-n-s-ne0.false (omega arith)).degrees (hit (sym c.refuses.ensures ∙ c.if-not-refuses.true) c.split_open-a.ensures)
+
+-- it left a pair open, and there is none
+pub loop-s-preserved : goal.loop-s-preserved
+loop-s-preserved c = (passed_missed c.loop-s.invariant.0 c.if-n-s-ne0.false (miss (sym c.refuses.ensures ∙ c.if-not-refuses.false) (coprime-at c.requires.0 c.loop-s.invariant.0.two c.if-n-s-ne0.false (omega arith)) c.split_open-a.ensures), omega arith, c.is_open.ensures.room)
+
+pub returns : goal.returns
+returns c = passed-all c.loop-s.invariant.0 (omega arith) (omega arith)
