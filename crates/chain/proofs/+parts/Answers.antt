@@ -11,9 +11,6 @@ use Rattle.round.proofs.Asking.{left_asked, inverse_next}
 use Rattle.chain.proofs.Placing.{chained-whole, chained_more, chained-within, next_place, left_less}
 use Rattle.chain.proofs.+parts.Goals as goal
 
-abbrev parts-claims : ℕ → parts-lts.Claims
-parts-claims t = (first-split-reads.Asked, first-split-reads.Learnt, put_reads.Asked, put_reads.Learnt, cost-reads.Asked, cost-reads.Learnt, multiply-reads.Asked, multiply-reads.Learnt, parts_below t, parts.Post)
-
 -- f does not split
 pub returns-then-not-a : goal.returns-then-not-a
 returns-then-not-a t c =

@@ -12,4 +12,4 @@ use Rattle.chain.proofs.Placing.{chained-whole, chained_more, chained-within, ne
 use Rattle.chain.proofs.+parts.Given as goal
 
 abbrev pub decreases-parts : goal.decreases-parts
-decreases-parts l = l.n.0
+decreases-parts l = l.n

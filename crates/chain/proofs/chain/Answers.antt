@@ -9,11 +9,6 @@ use Rattle.chain.proofs.Answering.{told-short, told-refused, told-found, chain_g
 use Rattle.area.specs.Area.{most_parts, area_words}
 use Rattle.chain.proofs.chain.Goals as goal
 
--- f is an array of `terms` words: said near the start, since omega does not reach so far back from the end
-long : (e : tie.Else2) → length e.before.before.before.before.before.before.before.before.before.before.before.before.before.args.t2 ≡ terms
-unfolding terms limit
-long e = omega arith
-
 -- No. 11
 pub returns-then-area-lt-WORDS : goal.returns-then-area-lt-WORDS
 unfolding terms limit most_parts area_words
@@ -39,7 +34,7 @@ pub accepted-requires : goal.accepted-requires
 unfolding terms limit most_parts area_words
 accepted-requires c =
     let d = c.made_ready-d.ensures in
-    (chain_given (long c) (sym c.check_one-o.ensures ∙ answered (sym c.refuses.ensures ∙ c.if-refuses.false)) d.0 c.degree-n.ensures (omega arith) c.table-table.ensures, d.1)
+    (chain_given (omega arith) (sym c.check_one-o.ensures ∙ answered (sym c.refuses.ensures ∙ c.if-refuses.false)) d.0 c.degree-n.ensures (omega arith) c.table-table.ensures, d.1)
 
 -- No. 5, or the chain
 pub returns : goal.returns

@@ -5,7 +5,7 @@ use Rattle.inverse.proofs.Inverses.{inverse-coprime, shared_not_coprime}
 use Rattle.chain.proofs.shares.Goals as goal
 
 pub returns-in-Of : goal.returns-in-Of
-returns-in-Of c = record { yes = λ e. absurd (false≢true e); no = λ e. inverse-coprime (rw c.enum_told-1.given.1 at c.invert.ensures) }
+returns-in-Of c = record { yes = λ e. absurd (false≢true e); no = λ e. inverse-coprime (rw c.in-Of.is at c.invert.ensures) }
 
 pub returns-in-Shared : goal.returns-in-Shared
-returns-in-Shared c = record { yes = λ e. shared_not_coprime (rw c.enum_told-in-Shared-1.given.1 at c.invert.ensures); no = λ e. absurd (false≢true (sym e)) }
+returns-in-Shared c = record { yes = λ e. shared_not_coprime (rw c.in-Shared.is at c.invert.ensures); no = λ e. absurd (false≢true (sym e)) }
