@@ -14,14 +14,14 @@ use Rattle.chain.proofs.+parts.Goals as goal
 -- f does not split
 pub returns-then-not-a : goal.returns-then-not-a
 returns-then-not-a t c =
-    let w = c.requires.1.0 in
+    let w = c.requires.0 in
     rw c.put.ensures (chained-whole _ w.whole.monic w.whole.reduced (c.first_split-a.ensures.no (not-true _ c.if-not-a.true)) (c.cost.ensures _ (degree-monic w.modulus.above_one w.whole.reduced w.whole.monic)))
 
 -- and fits a word
 pub overflow_cast-s : goal.overflow_cast-s
 unfolding limit
 overflow_cast-s t c =
-    let p = c.requires.1 in
+    let p = c.requires in
     let z = c.first_split-a.ensures.yes (not-false _ c.if-not-a.false) in
     record { fits = omega (arith, p.0.whole.within, sum-within z.two_left z.two_right z.product) }
 
@@ -33,7 +33,7 @@ nonzero_div-n t c =
 
 pub parts-c-requires : goal.parts-c-requires
 parts-c-requires t c =
-    let p = c.requires.1 in
+    let p = c.requires in
     let z = c.first_split-a.ensures.yes (not-false _ c.if-not-a.false) in
     let l = left_less z in
     (omega arith, (left_asked p.0 z.two_left z.two_right z.product z.pair, p.1, inverse_next _ _ _ p.0.modulus.above_one z.product p.2 c.multiply-u.ensures, p.3))
@@ -47,14 +47,14 @@ slice_bounds-put-end-2 t c =
 -- there is a next place
 pub put-requires-2 : goal.put-requires-2
 put-requires-2 t c =
-    let p = c.requires.1 in
+    let p = c.requires in
     let z = c.first_split-a.ensures.yes (not-false _ c.if-not-a.false) in
     (omega (arith, next_place z c.parts-c.ensures p.0.two p.0.whole.within), omega arith, z.pair.reduced_right.long)
 
 pub overflow_add-count : goal.overflow_add-count
 unfolding most_parts
 overflow_add-count t c =
-    let p = c.requires.1 in
+    let p = c.requires in
     let z = c.first_split-a.ensures.yes (not-false _ c.if-not-a.false) in
     omega (arith, next_place z c.parts-c.ensures p.0.two p.0.whole.within)
 
@@ -62,7 +62,7 @@ overflow_add-count t c =
 pub overflow_add-tries : goal.overflow_add-tries
 unfolding limit
 overflow_add-tries t c =
-    let p = c.requires.1 in
+    let p = c.requires in
     let z = c.first_split-a.ensures.yes (not-false _ c.if-not-a.false) in
     omega (arith, p.0.whole.within, (chained-within p.0.modulus.above_one (chained_more z c.parts-c.ensures refl)).0)
 
@@ -74,7 +74,7 @@ cost-requires-2 t c =
 pub overflow_add-price : goal.overflow_add-price
 unfolding limit
 overflow_add-price t c =
-    let p = c.requires.1 in
+    let p = c.requires in
     let z = c.first_split-a.ensures.yes (not-false _ c.if-not-a.false) in
     let d = c.cost-2.ensures _ (degree-monic p.0.modulus.above_one z.pair.reduced_right z.pair.pair.right) in
     omega (arith, p.0.whole.within, (chained-within p.0.modulus.above_one (chained_more z c.parts-c.ensures d)).1)
@@ -82,7 +82,11 @@ overflow_add-price t c =
 -- the parts of the left part, and the right part
 pub returns : goal.returns
 returns t c =
-    let p = c.requires.1 in
+    let p = c.requires in
     let z = c.first_split-a.ensures.yes (not-false _ c.if-not-a.false) in
     let d = c.cost-2.ensures _ (degree-monic p.0.modulus.above_one z.pair.reduced_right z.pair.pair.right) in
     rw c.put-2.ensures (chained_more z c.parts-c.ensures d)
+
+pub put-requires : goal.put-requires
+unfolding terms limit most_parts area_words
+put-requires t c = search rules

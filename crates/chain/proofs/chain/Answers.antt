@@ -42,3 +42,7 @@ unfolding terms limit most_parts area_words
 returns c =
     rw (← c.modulus-m.ensures)
     (told-found c.if-area-lt-WORDS.false c.check_one-o.ensures (sym c.refuses.ensures ∙ c.if-refuses.false) c.degree-n.ensures c.clear.ensures (rw c.made_ready-d.ensures.0 at c.accepted.ensures))
+
+pub clear-requires : goal.clear-requires
+unfolding terms limit most_parts area_words
+clear-requires c = search rules
