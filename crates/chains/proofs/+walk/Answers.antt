@@ -13,29 +13,20 @@ use Rattle.round.proofs.Rounds.{half_degrees}
 use Rattle.chains.proofs.Counting.{undivided}
 use Rattle.chains.proofs.Walking.{Gone, gone_none, gone_pass, gone_take, walked_yes, walked_no, room_next, more-price, reached-more, all-passed, one-passed, reached-one}
 use Rattle.chains.proofs.+walk.Goals as goal
-
-abbrev walk-claims : ℕ → walk-lts.Claims
-walk-claims t = (rightmost-reads.Asked, rightmost-reads.Learnt, walk-below t, walk.Post, put_reads.Asked, put_reads.Learnt, cost-reads.Asked, cost-reads.Learnt, reached-reads.Asked, reached-reads.Learnt, Passed-reads.Asked, Passed-reads.Learnt)
-
--- nothing is written before the j-th chain is reached
-abbrev walk-Inv-loop : walk-lts.invariant-loop
-walk-Inv-loop n j area₀ table m f rest₀ s₀ area rest s = (area ≡ area₀) × Gone m.number f s j rest × (2 ≤ s) × (s ≤ n / 2 + 1)
-
-abbrev walk-μ-loop : walk-lts.decreases-loop
-walk-μ-loop n j area₀ table m f rest₀ s₀ area rest s = n / 2 + 1 - s
+use Rattle.chains.proofs.+walk.Goals.{then-n-s-eq0+then-a+else-c, then-n-s-eq0+else-a, else-n-s-eq0}
 
 pub loop-s-init : goal.loop-s-init
-loop-s-init t c = (refl, gone_none (chainable c.requires.1.0) _, omega arith, omega arith)
+loop-s-init t c = (refl, gone_none (chainable c.requires.0) _, omega arith, omega arith)
 
 pub rightmost-a-requires : goal.rightmost-a-requires
 rightmost-a-requires t c =
-    let p = c.requires.1 in
+    let p = c.requires in
     (p.0, half_degrees c.loop-s.invariant.2 c.if-n-s-eq0.true (omega arith) p.0.whole.within, p.2)
 
 pub walk-c-requires : goal.walk-c-requires
 unfolding area_words most_parts terms limit
 walk-c-requires t c =
-    let p = c.requires.1 in
+    let p = c.requires in
     let z = c.rightmost-a.ensures.yes c.if-a.true in
     let l = sum-within z.two_left z.two_right z.product in
     (omega (arith, l, z.two_right), (left_asked p.0 z.two_left z.two_right z.product z.pair, rw c.loop-s.invariant.0 p.1, p.2))
@@ -45,7 +36,7 @@ pub put-requires : goal.put-requires
 unfolding area_words most_parts terms limit
 put-requires t c =
     let i = c.loop-s.invariant in
-    let p = c.requires.1 in
+    let p = c.requires in
     let k = chainable p.0 in
     let z = c.rightmost-a.ensures.yes c.if-a.true in
     let q = walked_yes c.if-c.true c.walk-c.ensures in
@@ -55,7 +46,7 @@ pub overflow_add-c : goal.overflow_add-c
 unfolding most_parts
 overflow_add-c t c =
     let i = c.loop-s.invariant in
-    let p = c.requires.1 in
+    let p = c.requires in
     let k = chainable p.0 in
     let z = c.rightmost-a.ensures.yes c.if-a.true in
     let q = walked_yes c.if-c.true c.walk-c.ensures in
@@ -66,7 +57,7 @@ pub overflow_add-c-then-c : goal.overflow_add-c-then-c
 unfolding limit
 overflow_add-c-then-c t c =
     let i = c.loop-s.invariant in
-    let p = c.requires.1 in
+    let p = c.requires in
     let k = chainable p.0 in
     let z = c.rightmost-a.ensures.yes c.if-a.true in
     let q = walked_yes c.if-c.true c.walk-c.ensures in
@@ -77,7 +68,7 @@ overflow_add-c-then-c t c =
 pub returns-then-c : goal.returns-then-c
 returns-then-c t c =
     let i = c.loop-s.invariant in
-    let p = c.requires.1 in
+    let p = c.requires in
     let k = chainable p.0 in
     let z = c.rightmost-a.ensures.yes c.if-a.true in
     let q = walked_yes c.if-c.true c.walk-c.ensures in
@@ -92,20 +83,20 @@ overflow_sub-rest t c =
 -- those at s were passed, or there are none
 pub loop-s-preserved : goal.loop-s-preserved
 loop-s-preserved t c =
-    let k = chainable c.requires.1.0 in
+    let k = chainable c.requires.0 in
     let i = c.loop-s.invariant in (
-      ⊎_elim
-          (λ w. w.10 ∙ (walked_no w.8.left w.5.ensures).area ∙ i.0)
-          (⊎_elim
-          (λ w. w.3 ∙ i.0)
-          (λ w. w.1 ∙ i.0))
-          c.if-n-s-eq0.branch,
-      ⊎_elim
-          (λ w. let q = walked_no w.8.left w.5.ensures in rw w.11 (gone_take k i.1 (w.1.ensures.yes w.2.taken) q.has q.most))
-          (⊎_elim
-          (λ w. rw w.4 (gone_pass k i.1 (w.1.ensures.no w.2.left)))
-          (λ w. rw w.2 (gone_pass k i.1 (undivided k (omega arith) w.0.left))))
-          c.if-n-s-eq0.branch,
+      elim c.if-n-s-eq0.branch [
+        then-n-s-eq0+then-a+else-c w ↦ w.area-is ∙ (walked_no w.if-c.false w.walk-c.ensures).area ∙ i.0
+      | then-n-s-eq0+else-a w ↦ w.area-is ∙ i.0
+      | else-n-s-eq0 w ↦ w.area-is ∙ i.0
+      ],
+      elim c.if-n-s-eq0.branch [
+        then-n-s-eq0+then-a+else-c w ↦
+          let q = walked_no w.if-c.false w.walk-c.ensures in
+          rw w.rest-is (gone_take k i.1 (w.rightmost-a.ensures.yes w.if-a.true) q.has q.most)
+      | then-n-s-eq0+else-a w ↦ rw w.rest-is (gone_pass k i.1 (w.rightmost-a.ensures.no w.if-a.false))
+      | else-n-s-eq0 w ↦ rw w.rest-is (gone_pass k i.1 (undivided k (omega arith) w.if-n-s-eq0.false))
+      ],
       omega arith,
       omega arith,
     )
@@ -115,26 +106,27 @@ overflow_sub-j t c = let i = c.loop-s.invariant in omega arith
 
 pub returns-then-rest-j : goal.returns-then-rest-j
 returns-then-rest-j t c =
-    let k = chainable c.requires.1.0 in
+    let k = chainable c.requires.0 in
     let i = c.loop-s.invariant in
     all-passed k (omega arith) i.1 i.0 c.if-rest-j.true c.passed.ensures
 
 pub returns-then-j-gt0 : goal.returns-then-j-gt0
 returns-then-j-gt0 t c =
-    let k = chainable c.requires.1.0 in
+    let k = chainable c.requires.0 in
     let i = c.loop-s.invariant in
     one-passed k (omega arith) i.1 i.0 c.if-rest-j.false (omega (arith, c.if-j-gt0.true)) c.passed-then-j-gt0.ensures
 
 pub put-requires-2 : goal.put-requires-2
 unfolding area_words most_parts terms limit
 put-requires-2 t c =
-    let k = chainable c.requires.1.0 in
+    let k = chainable c.requires.0 in
     let i = c.loop-s.invariant in
-    (omega arith, rw i.0 c.requires.1.1, k.whole.reduced.long)
+    (omega arith, rw i.0 c.requires.1, k.whole.reduced.long)
 
 -- f alone
 pub returns : goal.returns
 returns t c =
-    let k = chainable c.requires.1.0 in
+    let k = chainable c.requires.0 in
     let i = c.loop-s.invariant in
     reached-one k (omega arith) i.1 i.0 c.if-rest-j.false (omega (arith, c.if-j-gt0.false)) (c.cost-2.ensures _ (degree_is k)) c.put-2.ensures c.reached-2.ensures
+

@@ -11,15 +11,6 @@ use Rattle.chains.proofs.Walking.{walked_yes, walked_no}
 use Rattle.chains.proofs.Answering.{nth-short, nth_refused, nth-shared, nth_beyond, nth-told}
 use Rattle.chains.proofs.nth_chain.Goals as goal
 
--- f is an array of `terms` words: said once, near the start, since omega does not reach so far back from the end
-long : (e : tie.Else2) → length e.before.before.before.before.before.before.before.before.before.before.before.before.before.args.t2 ≡ terms
-unfolding terms limit
-long e = omega arith
-
--- no call makes the area longer or shorter
-kept : (w : tie.After-walk) → length w.walk.new.1.1.1.0 ≡ length w.before.before.before.before.before.before.before.before.before.before.before.before.before.before.before.before.before.before.before.before.args.area.now
-kept w = omega arith
-
 -- No. 11
 pub returns-then-area-lt-WORDS : goal.returns-then-area-lt-WORDS
 unfolding terms limit most_parts area_words
@@ -51,13 +42,13 @@ returns-then-shares c =
 pub made_ready-d-requires : goal.made_ready-d-requires
 unfolding terms limit
 made_ready-d-requires c =
-    accepted-modulus (accepted-one (long c) (sym c.check_one-o.ensures ∙ answered (sym c.refuses.ensures ∙ c.if-refuses.false))).modulus
+    accepted-modulus (accepted-one (omega arith) (sym c.check_one-o.ensures ∙ answered (sym c.refuses.ensures ∙ c.if-refuses.false))).modulus
 
 pub walk-a-requires : goal.walk-a-requires
 unfolding terms limit most_parts area_words
 walk-a-requires c =
     let a = sym c.check_one-o.ensures ∙ answered (sym c.refuses.ensures ∙ c.if-refuses.false) in
-    let (w, held, two) = accepted_as c.degree-n.ensures (accepted-one (long c) a) in
+    let (w, held, two) = accepted_as c.degree-n.ensures (accepted-one (omega arith) a) in
     let d = c.made_ready-d.ensures in
     (record { modulus = d.1.modulus; whole = rw d.0 held; two = two; coprime = rw d.0 (c.shares.ensures.no c.if-shares.false); binomials = c.table-table.ensures }, omega arith, d.1)
 
@@ -76,4 +67,8 @@ returns c =
     let a = sym c.check_one-o.ensures ∙ answered (sym c.refuses.ensures ∙ c.if-refuses.false) in
     rw (← c.modulus-m.ensures)
     (nth-told c.if-area-lt-WORDS.false c.check_one-o.ensures (sym c.refuses.ensures ∙ c.if-refuses.false) c.degree-n.ensures c.shares.ensures c.if-shares.false c.clear.ensures
-    (accepted-above (accepted-one (long c) a)) (walked_yes (not-false _ c.if-not-a.false) (rw c.made_ready-d.ensures.0 at c.walk-a.ensures)))
+    (accepted-above (accepted-one (omega arith) a)) (walked_yes (not-false _ c.if-not-a.false) (rw c.made_ready-d.ensures.0 at c.walk-a.ensures)))
+
+pub clear-requires : goal.clear-requires
+unfolding terms limit most_parts area_words
+clear-requires c = search rules
