@@ -1,4 +1,4 @@
-/* The desk for C and C++: link libdesk.a, which `rt staticlib desk` writes to target/staticlib for x86-64 Linux.
+/* The desk for C and C++: link libdesk.a, which `rt lib` in crates/desk writes to its out/ for x86-64 Linux.
  *
  * A polynomial is DESK_TERMS coefficients, that of x^0 first. Every function takes any numbers: what 01 or 02 refuses is refused
  * by its number, and every result is written, zeros after a refusal (a change is then (1, 0), a sheet and a text's area stay as

@@ -1,7 +1,7 @@
 /* Measures the stack that each function of desk.h takes: it is called on a painted stack, and what is not paint afterwards
- * is counted. By hand, for the figures in desk.h, after `rt staticlib desk`:
+ * is counted. By hand, for the figures in desk.h, after `machine/build desk`:
  *
- *     cc -O2 -Wl,-z,now -o target/examples/stack examples/stack.c target/staticlib/libdesk.a && target/examples/stack
+ *     cc -O2 -Wl,-z,now -o target/examples/stack examples/stack.c crates/desk/out/libdesk.a && target/examples/stack
  *
  * The requests are x^n and x^n + x at all degrees of g and h, each of their chains and the j after the last, and the sheet of g
  * and h; texts with 0 to 8 brackets in one another, good and faulty; and a polynomial without zeros, written: modulo 101 and

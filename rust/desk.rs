@@ -1,5 +1,5 @@
 //! The desk's functions as its static library exports them in C, for programs in Rust: `#[path = ".."] mod desk;`, and libdesk.a,
-//! which `rt staticlib desk` writes, is linked. `examples/desk.h` says what each of them does and what a caller owes.
+//! which `rt lib` in crates/desk writes, is linked. `examples/desk.h` says what each of them does and what a caller owes.
 
 // Who uses this uses some of it.
 #![allow(dead_code)]

@@ -1,12 +1,12 @@
 //! Links the desk's static library, and does so again whenever it is rebuilt.
 //!
 //! The archive is `libdesk.a` in the folder named by DESK_LIB_DIR, or else in
-//! `../target/staticlib`. A relative folder counts from this manifest.
+//! `../crates/desk/out`. A relative folder counts from this manifest.
 
 use std::env;
 use std::path::{Path, PathBuf};
 
-const USUAL_FOLDER: &str = "../target/staticlib";
+const USUAL_FOLDER: &str = "../crates/desk/out";
 
 fn archive_folder() -> PathBuf {
     let manifest = env::var("CARGO_MANIFEST_DIR").expect("cargo names the manifest's folder");
@@ -24,7 +24,7 @@ fn main() {
     // linker would only say "cannot find -ldesk".
     if !archive.is_file() {
         println!(
-            "cargo::error=no {}: run `rt staticlib desk` first, or name the folder in DESK_LIB_DIR",
+            "cargo::error=no {}: run `machine/build desk` first, or name the folder in DESK_LIB_DIR",
             archive.display()
         );
         return;

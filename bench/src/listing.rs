@@ -255,10 +255,10 @@ pub fn beside(passes: usize, heads: &[&str], programs: &mut [Command], same: boo
 
 pub fn run() {
     assert!(accepted(7, &monic(&mut Random(9), 7, 4, true)));
-    let list = || Command::new("target/bin/list");
+    let list = || Command::new("crates/list/out/list");
     let mut plain = Command::new(std::env::current_exe().unwrap());
     plain.arg("--list");
     beside(3, &["list", "plain Rust"], &mut [list(), plain], true);
-    let sheets = Command::new("target/bin/sheets");
+    let sheets = Command::new("crates/sheets/out/sheets");
     beside(1, &["sheets", "list"], &mut [sheets, list()], false);
 }
