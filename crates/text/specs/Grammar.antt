@@ -1,7 +1,7 @@
 -- The grammar of typed polynomials, as trees: a text of the language is the spelling of a tree that keeps the limits.
 --
 --   Sum, Product, Factor, Base        the trees: sums and differences of products, products of factors, a factor with or without a power
---   spell s                           the bytes of a sum; spell_product, -factor, -base of its parts
+--   spell s                           the bytes of a sum; spell_product, _factor, _base of its parts
 --   digits_value c                    the number that decimal digits stand for
 --   number_digits, most_power, most_deep    the limits
 --   Decimal c                         1 to 10 bytes, each a digit

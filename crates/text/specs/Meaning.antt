@@ -1,6 +1,6 @@
 -- What a tree means: a polynomial, as the list of its coefficients. "Modulo m" is only a way of comparing, as in algebra.
 --
---   meaning s m       the polynomial of a sum; meaning_product, -factor, -base of its parts
+--   meaning s m       the polynomial of a sum; meaning_product, _factor, _base of its parts
 --   Within s m        every sum, product and power that is built on the way is low; WithinProduct, -Factor, -Base of its parts
 use Rattle.std.specs.Prelude.{List, [], ◌∷◌, ℕ, ◌-◌}
 use Rattle.algebra.specs.Polynomial.{plus, scaled, times, power}

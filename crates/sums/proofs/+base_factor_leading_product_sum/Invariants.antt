@@ -1,0 +1,31 @@
+use lib.ListN.{length}
+use Rattle.phrase.specs.Reading.{Done, a_factor, a_product, a_sum}
+use Prim.Native.Nat.{◌+◌, ◌*◌, ◌-◌}
+use Rattle.sums.proofs.+base_factor_leading_product_sum.Given as goal
+
+abbrev pub decreases-base : goal.decreases-base
+decreases-base l = 5 * (length l.s.now - l.at) + 1
+
+abbrev pub decreases-factor : goal.decreases-factor
+decreases-factor l = 5 * (length l.s.now - l.at) + 2
+
+abbrev pub decreases-leading : goal.decreases-leading
+decreases-leading l = 5 * (length l.s.now - l.at) + 4
+
+abbrev pub decreases-product : goal.decreases-product
+decreases-product l = 5 * (length l.s.now - l.at) + 3
+
+abbrev pub decreases-sum : goal.decreases-sum
+decreases-sum l = 5 * (length l.s.now - l.at) + 5
+
+abbrev pub invariant-product-loop-k : goal.invariant-product-loop-k
+invariant-product-loop-k l = Done a_product a_factor l.m.number l.s l.at l.depth l.k l.v
+
+abbrev pub decreases-product-loop-k : goal.decreases-product-loop-k
+decreases-product-loop-k l = length l.s - l.k
+
+abbrev pub invariant-sum-loop-k : goal.invariant-sum-loop-k
+invariant-sum-loop-k l = Done a_sum a_product l.m.number l.s l.at l.depth l.k l.v
+
+abbrev pub decreases-sum-loop-k : goal.decreases-sum-loop-k
+decreases-sum-loop-k l = length l.s - l.k
