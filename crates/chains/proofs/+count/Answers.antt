@@ -40,9 +40,9 @@ loop-s-preserved t c =
     let k = chainable c.requires.0 in
     let i = c.loop-s.invariant in (
       elim c.if-n-s-eq0.branch [
-        then-n-s-eq0+then-a w ↦ rw w.c-is (below-take k i.0 (w.rightmost-a.ensures.yes w.if-a.true) w.count-c.ensures)
-      | then-n-s-eq0+else-a w ↦ rw w.c-is (below_pass k i.0 (w.rightmost-a.ensures.no w.if-a.false))
-      | else-n-s-eq0 w ↦ rw w.c-is (below_pass k i.0 (undivided k (omega arith) w.if-n-s-eq0.false))
+        | then-n-s-eq0+then-a w ↦ rw w.c-is (below-take k i.0 (w.rightmost-a.ensures.yes w.if-a.true) w.count-c.ensures)
+        | then-n-s-eq0+else-a w ↦ rw w.c-is (below_pass k i.0 (w.rightmost-a.ensures.no w.if-a.false))
+        | else-n-s-eq0 w ↦ rw w.c-is (below_pass k i.0 (undivided k (omega arith) w.if-n-s-eq0.false))
       ],
       omega arith,
       omega arith,
@@ -54,4 +54,3 @@ returns-then-c-eq0 t c = counted_one (chainable c.requires.0) (omega arith) (rw 
 
 pub returns : goal.returns
 returns t c = counted_all (chainable c.requires.0) (omega arith) (omega arith) c.loop-s.invariant.0
-

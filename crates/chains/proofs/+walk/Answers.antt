@@ -86,16 +86,16 @@ loop-s-preserved t c =
     let k = chainable c.requires.0 in
     let i = c.loop-s.invariant in (
       elim c.if-n-s-eq0.branch [
-        then-n-s-eq0+then-a+else-c w ↦ w.area-is ∙ (walked_no w.if-c.false w.walk-c.ensures).area ∙ i.0
-      | then-n-s-eq0+else-a w ↦ w.area-is ∙ i.0
-      | else-n-s-eq0 w ↦ w.area-is ∙ i.0
+        | then-n-s-eq0+then-a+else-c w ↦ w.area-is ∙ (walked_no w.if-c.false w.walk-c.ensures).area ∙ i.0
+        | then-n-s-eq0+else-a w ↦ w.area-is ∙ i.0
+        | else-n-s-eq0 w ↦ w.area-is ∙ i.0
       ],
       elim c.if-n-s-eq0.branch [
-        then-n-s-eq0+then-a+else-c w ↦
-          let q = walked_no w.if-c.false w.walk-c.ensures in
-          rw w.rest-is (gone_take k i.1 (w.rightmost-a.ensures.yes w.if-a.true) q.has q.most)
-      | then-n-s-eq0+else-a w ↦ rw w.rest-is (gone_pass k i.1 (w.rightmost-a.ensures.no w.if-a.false))
-      | else-n-s-eq0 w ↦ rw w.rest-is (gone_pass k i.1 (undivided k (omega arith) w.if-n-s-eq0.false))
+        | then-n-s-eq0+then-a+else-c w ↦
+            let q = walked_no w.if-c.false w.walk-c.ensures in
+            rw w.rest-is (gone_take k i.1 (w.rightmost-a.ensures.yes w.if-a.true) q.has q.most)
+        | then-n-s-eq0+else-a w ↦ rw w.rest-is (gone_pass k i.1 (w.rightmost-a.ensures.no w.if-a.false))
+        | else-n-s-eq0 w ↦ rw w.rest-is (gone_pass k i.1 (undivided k (omega arith) w.if-n-s-eq0.false))
       ],
       omega arith,
       omega arith,
@@ -129,4 +129,3 @@ returns t c =
     let k = chainable c.requires.0 in
     let i = c.loop-s.invariant in
     reached-one k (omega arith) i.1 i.0 c.if-rest-j.false (omega (arith, c.if-j-gt0.false)) (c.cost-2.ensures _ (degree_is k)) c.put-2.ensures c.reached-2.ensures
-
