@@ -91,7 +91,7 @@ fn two(a: u32, b: u32, out: &mut [u8], at: usize) -> usize
 fn first_numbers(number: u32, n: Numbers, out: &mut [u8]) -> usize
     requires { (n.parts ≤ most_parts) × (before_degrees * most_field ≤ length out.old) }
     ensures { Put out.old 0 (decimal number ++ spaced_of (0 ∷ n.degree ∷ n.parts ∷ n.tries ∷ n.price ∷ []))
-        (before-degrees * most-field) out.new result }
+        (before_degrees * most_field) out.new result }
 {
     let a = digits::digits(number, out, 0);
     let b = two(0, n.degree, out, a);
@@ -103,8 +103,8 @@ fn first_numbers(number: u32, n: Numbers, out: &mut [u8]) -> usize
 fn chain_line(number: u32, n: Numbers, area: &[u32], out: &mut [u8]) -> usize
     requires { (n.parts ≤ most_parts) × (area_words ≤ length area.now) × (most_line ≤ length out.old) }
     ensures { Put out.old 0
-        (fields number (0 ∷ n.degree ∷ n.parts ∷ n.tries ∷ n.price ∷ table n.parts (λ i. degree-of (place area.now i))))
-        most-line out.new result }
+        (fields number (0 ∷ n.degree ∷ n.parts ∷ n.tries ∷ n.price ∷ table n.parts (λ i. degree_of (place area.now i))))
+        most_line out.new result }
 {
     let parts = n.parts;
     let k = first_numbers(number, n, out);
@@ -171,8 +171,8 @@ pub fn line(bytes: &[u8], number: u32, binomials: &[u64; ENTRIES], out: &mut [u8
 // The lines of the records that s is cut into, of which the last may be short; answers their length. The table of binomials is lent:
 // a program fetches it once.
 pub fn lines(s: &[u8], number: u32, binomials: &[u64; ENTRIES], out: &mut [u8]) -> usize
-    requires s_len_bound { (length s.now ≤ most_records * record_bytes) × (most_lines ≤ length out.old) × (number + most_records < 2 ^ 32) }
-    requires binomials_value { binomials.now ≡ triangle rows }
+    requires fits { (length s.now ≤ most_records * record_bytes) × (most_lines ≤ length out.old) × (number + most_records < 2 ^ 32) }
+    requires table { binomials.now ≡ triangle rows }
     ensures { LinesIn s.now number out.old out.new result }
 {
     let mut at = 0;

@@ -2,10 +2,12 @@
 #![tactic(auto)]
 
 ghost use Rattle.std.specs.Prelude.{◌≡◌, ◌+◌, ◌<◌, ◌≤◌, length};
+ghost use Rattle.std.specs.Io.{ReadsAtMost};
 ghost use Rattle.record.specs.Record.{record_bytes};
 ghost use Rattle.reading.specs.Reading.{most_read, MayRead, Came, number_after, upto, to_front};
 
-use libc::{STDERR_FILENO, STDIN_FILENO, STDOUT_FILENO};
+use std::io;
+use std::io::{Read, Write};
 
 // How many records are read at the most.
 const MOST: usize = 1000000;
@@ -48,34 +50,34 @@ fn room(taken: usize, bytes: usize) -> usize
 }
 
 // A read into the lent bytes, after `taken` bytes. It is the only one, and `taken` is there for what it requires: that no byte past
-// the last record that is read is asked for. It answers 0 at the end of the input and less if it failed.
-fn read_after(taken: usize, bytes: &mut [u8]) -> isize
+// the last record that is read is asked for. It answers 0 at the end of the input.
+fn read_after(rt: &HostRuntime, taken: usize, bytes: &mut [u8]) -> io::Result<usize>
     requires { taken + length bytes.old ≤ most_read }
+    ensures { ReadsAtMost result bytes.new }
 {
-    libc::read(STDIN_FILENO, bytes)
+    rt.stdin().read(bytes)
 }
 
 // A line to standard error: the program's name, what has failed, at which record. If this fails too nothing is left to do.
-fn failed(program: &[u8], what: &[u8], number: u32) {
-    io::write_all(STDERR_FILENO, program);
-    io::write_all(STDERR_FILENO, what);
-    io::print_decimal(STDERR_FILENO, number as u64);
-    io::write_all(STDERR_FILENO, b"\n");
+fn failed(rt: &HostRuntime, program: &[u8], what: &[u8], number: u32) {
+    let mut to = rt.stderr();
+    let _ = to.write_all(program);
+    let _ = to.write_all(what);
+    let _ = writeln!(to, "{number}");
 }
 
 // One read into buf after `taken` bytes, behind those of the record that is begun, which stay. A read that failed is told.
-pub fn more(program: &[u8], taken: usize, buf: &mut [u8]) -> Got
+pub fn more(rt: &HostRuntime, program: &[u8], taken: usize, buf: &mut [u8]) -> Got
     requires { (taken < most_read) × (record_bytes ≤ length buf.old) }
     ensures { Came taken buf.old buf.new result }
 {
     let from = taken % record::BYTES;
     let to = from + room(taken, buf.len());
-    let got = read_after(taken, &mut buf[from..to]);
-    if got < 0 {
-        failed(program, b": reading failed at record ", number(taken));
+    let Ok(got) = read_after(rt, taken, &mut buf[from..to]) else {
+        failed(rt, program, b": reading failed at record ", number(taken));
         return Got::Failed;
-    }
-    Got::Bytes(io::count(got, &buf[from..to]))
+    };
+    Got::Bytes(got)
 }
 
 // How many bytes are listed where more have come after those that were kept: those of the whole records, or, where no more have
@@ -104,12 +106,13 @@ pub fn keep(buf: &mut [u8], from: usize, n: usize)
 }
 
 // Writes what was made of a read after `taken` bytes, and answers whether it could. A write that failed is told.
-pub fn put(program: &[u8], taken: usize, bytes: &[u8]) -> bool
+pub fn put(rt: &HostRuntime, program: &[u8], taken: usize, bytes: &[u8]) -> bool
     requires { taken < most_read }
 {
-    let is_written = io::write_all(STDOUT_FILENO, bytes);
+    let is_written = rt.stdout().write_all(bytes).is_ok();
     if !is_written {
         failed(
+            rt,
             program,
             b": writing failed at or after record ",
             number(taken),

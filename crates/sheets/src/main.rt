@@ -70,15 +70,15 @@ fn sheets(s: &[u8], out: &mut [u8]) -> usize
 
 // Puts the sheets of the bytes that are read after `taken`, and answers whether it could. It is the only write, and `records` is
 // there for what it requires: that what is put is the sheets of these bytes.
-fn put(taken: usize, records: &[u8], sheets: &[u8]) -> bool
+fn put(rt: &HostRuntime, taken: usize, records: &[u8], sheets: &[u8]) -> bool
     requires { (taken < most_read) × SheetsOf records.now sheets.now }
 {
-    reading::put(&NAME, taken, sheets)
+    reading::put(rt, &NAME, taken, sheets)
 }
 
 // What a read that brought `more` bytes leads to, after `taken` bytes: the sheets of the records that are whole by it are put, and the
 // bytes that have no sheet yet, fewer than a record, come to the front of buf. Answers whether the sheets could be put.
-fn step(taken: usize, more: usize, buf: &mut [u8], out: &mut [u8]) -> bool
+fn step(rt: &HostRuntime, taken: usize, more: usize, buf: &mut [u8], out: &mut [u8]) -> bool
     requires { (taken < most_read) × (taken + more ≤ most_read) × (taken % record_bytes + more ≤ sheets_buffer)
         × (length buf.old ≡ sheets_buffer) × (most_sheets * sheet_bytes ≤ length out.old) }
     ensures { Step Makes taken more buf.old buf.new }
@@ -86,20 +86,20 @@ fn step(taken: usize, more: usize, buf: &mut [u8], out: &mut [u8]) -> bool
     let kept = taken % record::BYTES;
     let to = reading::listed(kept, more);
     let w = sheets(&buf[..to], out);
-    let is_put = put(taken, &buf[..to], &out[..w]);
+    let is_put = put(rt, taken, &buf[..to], &out[..w]);
     reading::keep(buf, to, kept + more - to);
     is_put
 }
 
 // One read, and the sheets of the records that are whole by it.
-fn turn(taken: usize, buf: &mut [u8], out: &mut [u8]) -> Turned
+fn turn(rt: &HostRuntime, taken: usize, buf: &mut [u8], out: &mut [u8]) -> Turned
     requires { (taken < most_read) × (length buf.old ≡ sheets_buffer) × (most_sheets * sheet_bytes ≤ length out.old) }
     ensures { TurnOf Makes taken buf.old buf.new result }
 {
-    let Got::Bytes(more) = reading::more(&NAME, taken, buf) else {
+    let Got::Bytes(more) = reading::more(rt, &NAME, taken, buf) else {
         return Turned::Failed;
     };
-    if !step(taken, more, buf, out) {
+    if !step(rt, taken, more, buf, out) {
         return Turned::Failed;
     }
     if more == 0 {
@@ -109,13 +109,13 @@ fn turn(taken: usize, buf: &mut [u8], out: &mut [u8]) -> Turned
 }
 
 // Turn by turn, to the end of the input or the last record that is read. Answers false if reading or writing failed.
-fn run(buf: &mut [u8], out: &mut [u8]) -> bool
+fn run(rt: &HostRuntime, buf: &mut [u8], out: &mut [u8]) -> bool
     requires { (length buf.old ≡ sheets_buffer) × (most_sheets * sheet_bytes ≤ length out.old) }
     ensures { RunOf Makes result }
 {
     let mut taken = 0;
     while taken < LAST {
-        let t = turn(taken, buf, out);
+        let t = turn(rt, taken, buf, out);
         match t {
             Turned::On(more) => taken += more,
             Turned::Ended => return true,
@@ -125,8 +125,8 @@ fn run(buf: &mut [u8], out: &mut [u8]) -> bool
     true
 }
 
-fn main() {
+fn main(rt: HostRuntime) {
     let mut buf = [0u8; BUFFER];
     let mut out = [0u8; SHEETS];
-    run(&mut buf, &mut out);
+    run(&rt, &mut buf, &mut out);
 }

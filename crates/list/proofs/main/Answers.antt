@@ -1,4 +1,3 @@
-use native.Mathlib.Omega.{arith}
 use borrow.Author.Rules.{rules}
 use Rattle.algebra.specs.Polynomial.{terms, limit}
 use Rattle.digits.specs.Digits.{most_digits}
@@ -7,12 +6,8 @@ use Rattle.record.specs.Record.{record_bytes}
 use Rattle.listing.specs.Text.{most_field, before_degrees, most_line}
 use Rattle.listing.specs.Listing.{most_records, most_lines}
 use Rattle.list.specs.Buffer.{buffer_bytes}
-use Rattle.list.proofs.main.Statement.{statement}
-use Rattle.list.proofs.main.Tie as tie
+use Rattle.list.proofs.main.Goals as goal
 
-run-requires : tie.Need-run-requires
+pub run-requires : goal.run-requires
 unfolding buffer_bytes most_lines most_line before_degrees most_field most_digits most_parts most_records record_bytes terms limit
-run-requires c κs = (search rules, search rules)
-
-pub main_spec : {M : Type 1} → statement M
-main_spec = tie.close (tie.spec (λ c κs. search rules) (λ c. search rules) (λ c. search rules) run-requires (λ c. search rules))
+run-requires c = record { fits = search rules; table = search rules }

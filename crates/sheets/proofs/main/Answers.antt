@@ -4,9 +4,8 @@ use Rattle.area.specs.Area.{most_parts}
 use Rattle.record.specs.Record.{record_bytes}
 use Rattle.sheet.specs.Sheet.{sheet_bytes}
 use Rattle.sheets.specs.Sheets.{most_sheets, sheets_buffer}
-use Rattle.sheets.proofs.main.Statement.{statement}
-use Rattle.sheets.proofs.main.Tie as tie
+use Rattle.sheets.proofs.main.Goals as goal
 
-pub main_spec : {M : Type 1} → statement M
+pub run-requires : goal.run-requires
 unfolding sheets_buffer most_sheets sheet_bytes most_parts record_bytes terms limit
-main_spec = tie.close (tie.spec (λ c. search rules) (λ c. search rules) (λ c κs. search rules) (λ c. search rules))
+run-requires c = search rules

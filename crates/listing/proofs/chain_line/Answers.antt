@@ -1,9 +1,7 @@
-use mathlib.Core.Path.{◌∙◌}
 use mathlib.Core.List.{[], ◌∷◌}
 use Prim.Native.Nat.{ℕ, ◌+◌, ◌*◌}
 use native.Mathlib.Omega.{arith}
 use borrow.Author.Rules.{rules}
-use lib.ListN.{length-set}
 use Rattle.algebra.specs.Number.{table}
 use Rattle.algebra.specs.Polynomial.{degree}
 use Rattle.digits.specs.Digits.{most_digits}
@@ -11,29 +9,29 @@ use Rattle.digits.proofs.Text.{put-append, put-most, put_byte}
 use Rattle.area.specs.Area.{most_parts, place}
 use Rattle.listing.specs.Text.{most_field, before_degrees, most_line}
 use Rattle.listing.proofs.Text.{line-fields}
-use Rattle.listing.proofs.chain_line.Statement.{statement}
-use Rattle.listing.proofs.chain_line.Tie as tie
+use Rattle.listing.proofs.chain_line.Goals as goal
 
-same_length : tie.Need-same-length
-same_length c = simp length-set (c.before.before.degrees.auto.1.1.0 ∙ c.before.before.before.before.before.before.first-numbers.auto.1.1.0)
-
-returns : tie.Need-returns
+pub returns : goal.returns
 unfolding most_line before_degrees most_field most_digits most_parts
 returns c =
-    let a = c.before.before.before.before.before.before.before.before.before.before.args in
+    let a = c.args in
     let n = a.n in
     rw (← line-fields a.number (0 ∷ n.degree ∷ n.parts ∷ n.tries ∷ n.price ∷ []) (table n.parts (λ (i : ℕ). degree (place a.area.now i))))
     (put-most {m = before_degrees * most_field + (most_field * n.parts + 1)} (omega arith)
-    (put-append c.before.before.before.before.before.before.first-numbers.ensures (put-append c.before.before.degrees.ensures (put_byte _ _ _))))
+    (put-append c.first_numbers-k.ensures (put-append c.degrees-end.ensures (put_byte _ _ _))))
 
-pub chain-line-spec : {M : Type 1} → statement M
+pub first_numbers-k-requires : goal.first_numbers-k-requires
 unfolding most_line before_degrees most_field most_digits most_parts
-chain-line-spec =
-    tie.close
-    (tie.spec
-    (λ c κs. search rules)
-    (λ c κs. search rules)
-    (λ c. search rules)
-    (λ c. search rules)
-    same_length
-    returns)
+first_numbers-k-requires c = search rules
+
+pub degrees-end-requires : goal.degrees-end-requires
+unfolding most_line before_degrees most_field most_digits most_parts
+degrees-end-requires c = search rules
+
+pub bounds-out-end : goal.bounds-out-end
+unfolding most_line before_degrees most_field most_digits most_parts
+bounds-out-end c = search rules
+
+pub overflow_add-result : goal.overflow_add-result
+unfolding most_line before_degrees most_field most_digits most_parts
+overflow_add-result c = search rules
