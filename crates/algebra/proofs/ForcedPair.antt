@@ -7,7 +7,7 @@
 --   leading                               of the leading terms only x^(n-1), .., x^(n-s+1) need a look
 --   forced_refutes                        a place where the forced pair differs from f shows that there is no pair at all
 --   left_refutes                          and for a given h that there is no left part
-use mathlib.Core.Path.{◌≡◌, refl, sym, ap, subst, ◌∙◌}
+use mathlib.Core.Path.{◌≡◌, sym, ap, subst, ◌∙◌}
 use mathlib.Core.List.{List}
 use Prim.Native.Nat.{ℕ, zero, suc, ◌+◌, ◌*◌, ◌-◌, ◌%◌, ◌≤◌, ◌<◌}
 use native.Mathlib.Nat as N

@@ -14,7 +14,7 @@ use lib.ListN.{length}
 use Rattle.algebra.specs.Number.{Coprime}
 use Rattle.algebra.specs.Polynomial.{degree, terms, limit, Reduced}
 use Rattle.algebra.specs.Change.{Changed}
-use Rattle.algebra.specs.Chain.{Chain, whole, step, price}
+use Rattle.algebra.specs.Chain.{Chain, whole, step}
 use Rattle.algebra.proofs.Factors.{coprime-invertible}
 use Rattle.algebra.proofs.Chains as C
 use Rattle.refusal.specs.Refusal.{refusal}

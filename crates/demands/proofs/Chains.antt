@@ -19,7 +19,6 @@ use lib.ListN.{length}
 use Rattle.algebra.specs.Number.{Coprime}
 use Rattle.algebra.specs.Polynomial.{degree, terms, Reduced}
 use Rattle.algebra.specs.Change.{Changed}
-use Rattle.algebra.specs.Chain.{price}
 use Rattle.algebra.specs.Every.{CompleteChain, Earlier, EveryChain, NthChain}
 use Rattle.algebra.proofs.Factors.{coprime-invertible}
 use Rattle.algebra.proofs.Complete.{Chainable, complete-product, complete-some}

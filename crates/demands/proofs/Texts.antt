@@ -6,7 +6,7 @@
 --   read-accepted     an answer without a refusal passes the checks of the desk, and is the meaning modulo m
 use mathlib.Core.Path.{◌≡◌, refl, sym, ap, ◌∙◌}
 use mathlib.Core.Bool.{Bool, true, false, not}
-use mathlib.Core.Logic.{◌⊎◌, inl, inr, ⊎_elim, ◌↔◌}
+use mathlib.Core.Logic.{inl, inr, ⊎_elim, ◌↔◌}
 use mathlib.Core.List.{List}
 use Prim.Native.Nat.{ℕ, ◌-◌}
 use Rattle.refusal.specs.Refusal.{refusal, refuse, ◌then◌, number_of}

@@ -24,7 +24,7 @@ use Rattle.algebra.specs.Polynomial.{coef, after, Same, Held}
 use Rattle.algebra.proofs.Polynomials.{◌⨾◌, same_refl, same_sym, zero_nothing, plus-same, plus_comm, plus-nothing, times_comm, times-nothing, after_same, constant-after}
 use Rattle.algebra.proofs.Division.{after-short, parts-after, left-part_unique}
 use Rattle.division.specs.Division.{DivisionAsked, Divided, Raised, ConstantIs}
-use Rattle.division.proofs.Asked.{remainder_asked, raised_asked}
+use Rattle.division.proofs.Asked.{remainder_asked}
 use Rattle.left.specs.Digits.{Begins, Lowest, Digits}
 use Rattle.polynomial.proofs.Below.{take_below, join_below}
 use Rattle.division.proofs.Pieces.{front, back}

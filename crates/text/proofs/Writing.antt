@@ -20,7 +20,7 @@ use lib.ListN.{length, take, drop, length-append, get_or-eq_default}
 use lib.Seq.{take-append-le, take-length}
 use Rattle.algebra.specs.Polynomial.{coef, power, degree, limit, terms, reduced}
 use Rattle.algebra.proofs.Coefficients.{coef-plus}
-use Rattle.algebra.proofs.Highest.{degree-above, degree-below}
+use Rattle.algebra.proofs.Highest.{degree-above}
 use Rattle.algebra.proofs.Numbers.{table_ext}
 use Rattle.algebra.proofs.Reduction.{reduced_equal, reduced-reduced}
 use Rattle.polynomial.proofs.Acceptance.{accepted-modulus, accepted-one, polynomial-accepted, degree-fits}

@@ -1,12 +1,12 @@
 use Rattle.algebra.specs.Polynomial.{limit, terms}
 use mathlib.Core.Path.{◌≡◌, ap, ◌∙◌}
 use mathlib.Core.List.{◌++◌}
-use Prim.Native.Nat.{ℕ, ◌≤◌, ◌-◌}
+use Prim.Native.Nat.{ℕ}
 use native.Mathlib.Omega.{arith}
 use Rattle.area.specs.Area.{most_parts, area_words, cleared}
 use borrow.Author.Rules.{rules}
 use borrow.Author.Fill.{fill_more}
-use lib.ListN.{length, replicate, drop, length-set}
+use lib.ListN.{replicate, drop, length-set}
 use Rattle.area.proofs.clear.Goals as goal
 
 pub loop-k-preserved : goal.loop-k-preserved

@@ -1,12 +1,8 @@
-use Rattle.algebra.specs.Polynomial.{limit, terms}
-use mathlib.Core.Path.{◌≡◌, ap, ◌∙◌}
+use mathlib.Core.Path.{◌≡◌}
 use mathlib.Core.List.{◌++◌}
-use Prim.Native.Nat.{ℕ, ◌≤◌, ◌-◌}
-use native.Mathlib.Omega.{arith}
-use Rattle.area.specs.Area.{most_parts, area_words, cleared}
-use borrow.Author.Rules.{rules}
-use borrow.Author.Fill.{fill_more}
-use lib.ListN.{length, replicate, drop, length-set}
+use Prim.Native.Nat.{◌≤◌, ◌-◌}
+use Rattle.area.specs.Area.{area_words}
+use lib.ListN.{length, replicate, drop}
 use Rattle.area.proofs.clear.Given as goal
 
 abbrev pub invariant-loop-k : goal.invariant-loop-k

@@ -1,11 +1,7 @@
-use mathlib.Core.Path.{◌≡◌, ◌∙◌}
-use mathlib.Core.List.{◌++◌, append-nil}
+use mathlib.Core.Path.{◌≡◌}
+use mathlib.Core.List.{◌++◌}
 use Prim.Native.Nat.{◌≤◌, ◌-◌}
-use native.Mathlib.Omega.{arith}
-use borrow.Author.Rules.{rules}
-use lib.ListN.{length, take, drop, length-set, drop_of_length-le}
-use lib.Seq.{take_all}
-use Rattle.area.proofs.Copying.{copy_more}
+use lib.ListN.{length, take, drop}
 use Rattle.area.proofs.copy.Given as goal
 
 abbrev pub invariant-loop-k : goal.invariant-loop-k

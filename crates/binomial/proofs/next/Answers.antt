@@ -1,9 +1,8 @@
 use mathlib.Core.Path.{◌≡◌, refl}
-use Prim.Native.Nat.{◌≤◌}
 use native.Mathlib.Omega.{arith}
-use lib.ListN.{length, length-set}
+use lib.ListN.{length-set}
 use Rattle.binomial.specs.Triangle.{rows}
-use Rattle.binomial.proofs.Pascal.{Stepped, stepped_none, stepped_more, stepped_all, sum_fits}
+use Rattle.binomial.proofs.Pascal.{stepped_none, stepped_more, stepped_all, sum_fits}
 use Rattle.binomial.proofs.next.Goals as goal
 
 pub loop-i-init : goal.loop-i-init

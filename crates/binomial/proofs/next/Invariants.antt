@@ -1,9 +1,7 @@
-use mathlib.Core.Path.{◌≡◌, refl}
+use mathlib.Core.Path.{◌≡◌}
 use Prim.Native.Nat.{◌≤◌}
-use native.Mathlib.Omega.{arith}
-use lib.ListN.{length, length-set}
-use Rattle.binomial.specs.Triangle.{rows}
-use Rattle.binomial.proofs.Pascal.{Stepped, stepped_none, stepped_more, stepped_all, sum_fits}
+use lib.ListN.{length}
+use Rattle.binomial.proofs.Pascal.{Stepped}
 use Rattle.binomial.proofs.next.Given as goal
 
 abbrev pub invariant-loop-i : goal.invariant-loop-i

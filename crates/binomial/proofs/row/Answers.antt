@@ -1,9 +1,7 @@
 use mathlib.Core.Path.{◌≡◌, refl, sym}
-use Prim.Native.Nat.{◌-◌, ◌≤◌}
 use native.Mathlib.Omega.{arith}
 use borrow.Author.Rules.{rules}
-use lib.ListN.{length}
-use Rattle.binomial.specs.Triangle.{rows, HasRow}
+use Rattle.binomial.specs.Triangle.{rows}
 use Rattle.binomial.proofs.Pascal.{row_first}
 use Rattle.binomial.proofs.row.Goals as goal
 

@@ -1,10 +1,7 @@
-use mathlib.Core.Path.{◌≡◌, refl, sym}
+use mathlib.Core.Path.{◌≡◌}
 use Prim.Native.Nat.{◌-◌, ◌≤◌}
-use native.Mathlib.Omega.{arith}
-use borrow.Author.Rules.{rules}
 use lib.ListN.{length}
 use Rattle.binomial.specs.Triangle.{rows, HasRow}
-use Rattle.binomial.proofs.Pascal.{row_first}
 use Rattle.binomial.proofs.row.Given as goal
 
 abbrev pub invariant-loop-j : goal.invariant-loop-j

@@ -1,5 +1,4 @@
 use mathlib.Core.Path.{refl, ap, ◌∙◌}
-use borrow.Author.Rules.{rules}
 use Rattle.inverse.proofs.Inverses.{inverse-coprime, shared_not_coprime}
 use Rattle.chain.specs.Chaining.{factor, parts, unchained}
 use Rattle.chain.proofs.accepted.Goals as goal

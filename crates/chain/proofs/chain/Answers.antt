@@ -1,7 +1,6 @@
-use mathlib.Core.Path.{◌≡◌, sym, ◌∙◌}
+use mathlib.Core.Path.{sym, ◌∙◌}
 use native.Mathlib.Omega.{arith}
 use borrow.Author.Rules.{rules}
-use lib.ListN.{length}
 use Rattle.algebra.specs.Polynomial.{terms, limit}
 use Rattle.refusal.proofs.Outcomes.{answered}
 use Rattle.polynomial.proofs.Acceptance.{accepted-modulus, accepted-one}

@@ -1,5 +1,4 @@
 use native.Mathlib.Omega.{arith}
-use borrow.Author.Rules.{rules}
 use Rattle.algebra.specs.Chain.{cost}
 use Rattle.chain.proofs.cost.Goals as goal
 

@@ -1,12 +1,9 @@
-use mathlib.Core.Logic.{⊎_elim}
-use Prim.Native.Nat.{ℕ, ◌+◌, ◌-◌, ◌/◌, ◌≤◌, ◌<◌}
 use native.Mathlib.Omega.{arith}
-use borrow.Author.Rules.{rules}
 use Rattle.algebra.specs.Polynomial.{limit}
 use Rattle.algebra.proofs.Chains.{sum-within}
 use Rattle.round.proofs.Asking.{chainable, left_asked}
 use Rattle.round.proofs.Rounds.{half_degrees}
-use Rattle.chains.proofs.Counting.{undivided, Below, below_none, below_pass, below-take, below-few, counted_one, counted_all}
+use Rattle.chains.proofs.Counting.{undivided, below_none, below_pass, below-take, below-few, counted_one, counted_all}
 use Rattle.chains.proofs.+count.Goals as goal
 use Rattle.chains.proofs.+count.Goals.{then-n-s-eq0+then-a, then-n-s-eq0+else-a, else-n-s-eq0}
 

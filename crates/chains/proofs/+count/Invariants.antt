@@ -1,12 +1,5 @@
-use mathlib.Core.Logic.{⊎_elim}
-use Prim.Native.Nat.{ℕ, ◌+◌, ◌-◌, ◌/◌, ◌≤◌, ◌<◌}
-use native.Mathlib.Omega.{arith}
-use borrow.Author.Rules.{rules}
-use Rattle.algebra.specs.Polynomial.{limit}
-use Rattle.algebra.proofs.Chains.{sum-within}
-use Rattle.round.proofs.Asking.{chainable, left_asked}
-use Rattle.round.proofs.Rounds.{half_degrees}
-use Rattle.chains.proofs.Counting.{undivided, Below, below_none, below_pass, below-take, below-few, counted_one, counted_all}
+use Prim.Native.Nat.{◌+◌, ◌-◌, ◌/◌, ◌≤◌}
+use Rattle.chains.proofs.Counting.{Below}
 use Rattle.chains.proofs.+count.Given as goal
 
 abbrev pub decreases-count : goal.decreases-count

@@ -1,8 +1,5 @@
-use mathlib.Core.Path.{◌≡◌, refl, ap, ◌∙◌}
-use mathlib.Core.Logic.{⊎_elim}
-use Prim.Native.Nat.{ℕ, ◌+◌, ◌-◌, ◌/◌, ◌≤◌, ◌<◌}
+use mathlib.Core.Path.{refl, ap, ◌∙◌}
 use native.Mathlib.Omega.{arith}
-use borrow.Author.Rules.{rules}
 use lib.ListN.{length}
 use Rattle.algebra.specs.Polynomial.{terms, limit}
 use Rattle.algebra.proofs.Chains.{sum-within}
@@ -11,7 +8,7 @@ use Rattle.area.specs.Area.{most_parts, area_words}
 use Rattle.round.proofs.Asking.{chainable, left_asked}
 use Rattle.round.proofs.Rounds.{half_degrees}
 use Rattle.chains.proofs.Counting.{undivided}
-use Rattle.chains.proofs.Walking.{Gone, gone_none, gone_pass, gone_take, walked_yes, walked_no, room_next, more-price, reached-more, all-passed, one-passed, reached-one}
+use Rattle.chains.proofs.Walking.{gone_none, gone_pass, gone_take, walked_yes, walked_no, room_next, more-price, reached-more, all-passed, one-passed, reached-one}
 use Rattle.chains.proofs.+walk.Goals as goal
 use Rattle.chains.proofs.+walk.Goals.{then-n-s-eq0+then-a+else-c, then-n-s-eq0+else-a, else-n-s-eq0}
 

@@ -1,6 +1,5 @@
 use mathlib.Core.Path.{sym, ◌∙◌}
 use native.Mathlib.Omega.{arith}
-use borrow.Author.Rules.{rules}
 use Rattle.algebra.specs.Polynomial.{terms, limit}
 use Rattle.refusal.proofs.Outcomes.{answered}
 use Rattle.polynomial.proofs.Acceptance.{accepted-modulus, accepted-one, accepted_as}

@@ -1,8 +1,7 @@
-use mathlib.Core.Path.{◌≡◌, sym, ◌∙◌}
+use mathlib.Core.Path.{sym, ◌∙◌}
 use native.Mathlib.Omega.{arith}
 use borrow.Author.Rules.{rules}
 use borrow.Author.Tests.{not-true, not-false}
-use lib.ListN.{length}
 use Rattle.algebra.specs.Polynomial.{terms, limit}
 use Rattle.refusal.proofs.Outcomes.{answered}
 use Rattle.polynomial.proofs.Acceptance.{accepted-modulus, accepted-one, accepted-above, accepted_as}

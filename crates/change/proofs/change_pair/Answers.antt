@@ -1,11 +1,8 @@
-use mathlib.Core.Path.{◌≡◌, ap, ◌∙◌}
-use Prim.Native.Nat.{◌*◌, ◌≤◌}
+use mathlib.Core.Path.{ap, ◌∙◌}
 use native.Mathlib.Omega.{arith}
 use borrow.Author.Rules.{rules}
 use borrow.Author.Tests.{not-true, not-false}
-use Rattle.algebra.specs.Polynomial.{degree, limit, terms}
-use Rattle.refusal.specs.declared.Outcome.TheVariants.{Answered}
-use Rattle.polynomial.specs.Checks.{check_pair, Accepted}
+use Rattle.algebra.specs.Polynomial.{limit, terms}
 use Rattle.polynomial.specs.Answers.{no_parts}
 use Rattle.polynomial.proofs.Acceptance.{accepted-modulus, accepted-pair, accepted_as}
 use Rattle.change.specs.Changing.{refused, not_proper, changed}

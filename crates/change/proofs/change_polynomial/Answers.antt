@@ -1,10 +1,8 @@
-use mathlib.Core.Path.{◌≡◌, refl, ap, ◌∙◌}
+use mathlib.Core.Path.{refl, ap, ◌∙◌}
 use native.Mathlib.Omega.{arith}
 use borrow.Author.Rules.{rules}
 use borrow.Author.Tests.{not-true, not-false}
 use Rattle.algebra.specs.Polynomial.{limit, terms}
-use Rattle.refusal.specs.declared.Outcome.TheVariants.{Answered}
-use Rattle.polynomial.specs.Checks.{check_one, Accepted}
 use Rattle.polynomial.specs.Answers.{nothing}
 use Rattle.polynomial.proofs.Acceptance.{accepted-modulus, accepted-one, accepted_as}
 use Rattle.change.specs.Changing.{refused, not_proper, changed}

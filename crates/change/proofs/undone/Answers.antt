@@ -1,5 +1,4 @@
 use native.Mathlib.Omega.{arith}
-use borrow.Author.Rules.{rules}
 use Rattle.change.proofs.Answering.{undone-is}
 use Rattle.change.proofs.undone.Goals as goal
 

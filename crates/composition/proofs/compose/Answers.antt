@@ -1,8 +1,7 @@
-use Prim.Native.Nat.{◌+◌, ◌≤◌}
 use mathlib.Core.Path.{sym}
 use native.Mathlib.Omega.{arith}
 use Rattle.algebra.specs.Polynomial.{limit, terms}
-use Rattle.composition.proofs.Horner.{Partly, partly_none, partly_next, partly_room, partly_all}
+use Rattle.composition.proofs.Horner.{partly_none, partly_next, partly_room, partly_all}
 use Rattle.composition.proofs.compose.Goals as goal
 
 pub loop-i-init : goal.loop-i-init

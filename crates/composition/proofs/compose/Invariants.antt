@@ -1,8 +1,5 @@
 use Prim.Native.Nat.{◌+◌, ◌≤◌}
-use mathlib.Core.Path.{sym}
-use native.Mathlib.Omega.{arith}
-use Rattle.algebra.specs.Polynomial.{limit, terms}
-use Rattle.composition.proofs.Horner.{Partly, partly_none, partly_next, partly_room, partly_all}
+use Rattle.composition.proofs.Horner.{Partly}
 use Rattle.composition.proofs.compose.Given as goal
 
 -- p is what Horner's rule has after g's terms from x^i on

@@ -1,11 +1,7 @@
 use mathlib.Core.Path.{◌≡◌, refl, sym, ◌∙◌}
-use mathlib.Core.List.{[], ◌∷◌}
-use Prim.Native.Nat.{◌%◌, ◌≤◌}
 use native.Mathlib.Omega.{arith}
-use borrow.Author.Rules.{rules}
-use lib.ListN.{length-set}
-use Rattle.algebra.specs.Polynomial.{coef, plus, times, limit, terms, reduced}
-use Rattle.polynomial.proofs.Filling.{Down, down-none, down-more, down-all}
+use Rattle.algebra.specs.Polynomial.{limit, terms, reduced}
+use Rattle.polynomial.proofs.Filling.{down-none, down-more, down-all}
 use Rattle.composition.proofs.Horner.{step-first, step_line, step_past}
 use Rattle.composition.proofs.line_step.Goals as goal
 

@@ -1,5 +1,4 @@
 use mathlib.Core.Path.{refl}
-use borrow.Author.Rules.{rules}
 use Rattle.desk.proofs.desk_change_polynomial.Goals as goal
 
 -- the change that is made is (a, b)

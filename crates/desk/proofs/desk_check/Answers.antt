@@ -1,7 +1,6 @@
 use mathlib.Core.Path.{◌∙◌, ap}
 use Rattle.desk.specs.Face.{told}
 use Rattle.record.specs.declared.Checked.{Checked}
-use borrow.Author.Rules.{rules}
 use Rattle.desk.proofs.desk_check.Goals as goal
 
 pub returns : goal.returns

@@ -1,6 +1,5 @@
 use mathlib.Core.Path.{sym, ap, ◌∙◌}
 use lib.ListN.{length}
-use borrow.Author.Rules.{rules}
 use Rattle.area.proofs.Handing.{part_placed}
 use Rattle.desk.proofs.Answers.{place_empty, place-full}
 use Rattle.desk.proofs.desk_part.Goals as goal

@@ -1,11 +1,9 @@
 use mathlib.Core.Path.{◌≡◌, refl}
-use Prim.Native.Nat.{◌-◌, ◌≤◌}
+use Prim.Native.Nat.{◌-◌}
 use native.Mathlib.Nat.{mod-lt}
 use native.Mathlib.Omega.{arith}
-use borrow.Author.Rules.{rules}
-use lib.ListN.{length}
 use Rattle.algebra.specs.Polynomial.{terms, limit}
-use Rattle.division.proofs.Dividing.{Dividing, dividing_none, dividing_more, dividing_range, divided}
+use Rattle.division.proofs.Dividing.{dividing_none, dividing_more, dividing_range, divided}
 use Rattle.division.proofs.divide.Goals as goal
 
 pub loop-i-init : goal.loop-i-init

@@ -1,11 +1,6 @@
-use mathlib.Core.Path.{◌≡◌, refl}
-use Prim.Native.Nat.{◌-◌, ◌≤◌}
-use native.Mathlib.Nat.{mod-lt}
-use native.Mathlib.Omega.{arith}
-use borrow.Author.Rules.{rules}
+use Prim.Native.Nat.{◌≤◌}
 use lib.ListN.{length}
-use Rattle.algebra.specs.Polynomial.{terms, limit}
-use Rattle.division.proofs.Dividing.{Dividing, dividing_none, dividing_more, dividing_range, divided}
+use Rattle.division.proofs.Dividing.{Dividing}
 use Rattle.division.proofs.divide.Given as goal
 
 abbrev pub invariant-loop-i : goal.invariant-loop-i

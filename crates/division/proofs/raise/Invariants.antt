@@ -1,10 +1,5 @@
-use mathlib.Core.Path.{◌≡◌}
 use Prim.Native.Nat.{◌-◌, ◌≤◌}
-use native.Mathlib.Omega.{arith}
-use borrow.Author.Rules.{rules}
-use Rattle.algebra.specs.Polynomial.{limit}
 use Rattle.division.specs.Division.{Raised}
-use Rattle.division.proofs.Raising.{raised-one, raised-room, raised-more}
 use Rattle.division.proofs.raise.Given as goal
 
 abbrev pub invariant-loop-i : goal.invariant-loop-i

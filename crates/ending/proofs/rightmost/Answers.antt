@@ -1,6 +1,5 @@
 use mathlib.Core.Path.{sym, ◌∙◌}
 use native.Mathlib.Omega.{arith}
-use borrow.Author.Rules.{rules}
 use Rattle.round.proofs.Asking.{chainable, left-coprime, right_asked}
 use Rattle.round.proofs.Rounds.{hit, miss}
 use Rattle.ending.proofs.Ends.{missed, splits-on, ends_there}

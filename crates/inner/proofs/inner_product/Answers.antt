@@ -1,10 +1,7 @@
 use mathlib.Core.Path.{◌≡◌}
-use Prim.Native.Nat.{◌-◌, ◌≤◌}
 use native.Mathlib.Omega.{arith}
-use borrow.Author.Rules.{rules}
-use Rattle.inner.specs.Inner.{inner}
 use Rattle.inner.proofs.Inner.{inner_start, inner_next}
-use Rattle.inner.proofs.Words.{Widened, widened_none, widened_more, widened_room, widened_mod}
+use Rattle.inner.proofs.Words.{widened_none, widened_more, widened_room, widened_mod}
 use Rattle.inner.proofs.inner_product.Goals as goal
 
 pub returns-then-m-eq-MACHINE_WORDS : goal.returns-then-m-eq-MACHINE_WORDS

@@ -1,10 +1,6 @@
-use mathlib.Core.Path.{◌≡◌}
 use Prim.Native.Nat.{◌-◌, ◌≤◌}
-use native.Mathlib.Omega.{arith}
-use borrow.Author.Rules.{rules}
 use Rattle.inner.specs.Inner.{inner}
-use Rattle.inner.proofs.Inner.{inner_start, inner_next}
-use Rattle.inner.proofs.Words.{Widened, widened_none, widened_more, widened_room, widened_mod}
+use Rattle.inner.proofs.Words.{Widened}
 use Rattle.inner.proofs.inner_product.Given as goal
 
 abbrev pub invariant-loop-i : goal.invariant-loop-i

@@ -1,10 +1,6 @@
-use mathlib.Core.Path.{◌≡◌, refl, sym, ap}
-use Prim.Native.Nat.{ℕ, ◌+◌, ◌-◌, ◌%◌, ◌^◌, ◌≤◌}
-use native.Mathlib.Omega.{arith}
-use borrow.Author.Rules.{rules}
+use mathlib.Core.Path.{◌≡◌}
+use Prim.Native.Nat.{◌+◌, ◌-◌, ◌%◌, ◌^◌, ◌≤◌}
 use Rattle.inner.specs.Inner.{inner}
-use Rattle.algebra.proofs.Congruent.{one_more}
-use Rattle.inner.proofs.Inner.{inner_start, inner_next}
 use Rattle.inner.proofs.inner_words.Given as goal
 
 abbrev pub invariant-loop-i : goal.invariant-loop-i

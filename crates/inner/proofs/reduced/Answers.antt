@@ -1,6 +1,5 @@
 use mathlib.Core.Path.{◌∙◌}
 use native.Mathlib.Omega.{arith}
-use borrow.Author.Rules.{rules}
 use Rattle.algebra.proofs.Sizes.{product-fits, carried-fits}
 use Rattle.inner.proofs.Words.{one_word, two-words}
 use Rattle.inner.proofs.reduced.Goals as goal

@@ -1,10 +1,6 @@
-use mathlib.Core.Path.{◌≡◌, refl, sym, ap}
-use Prim.Native.Nat.{ℕ, ◌+◌, ◌-◌, ◌*◌, ◌%◌, ◌^◌, ◌≤◌, ◌<◌}
-use native.Mathlib.Omega.{arith}
-use borrow.Author.Rules.{rules}
+use mathlib.Core.Path.{◌≡◌}
+use Prim.Native.Nat.{◌+◌, ◌-◌, ◌*◌, ◌%◌, ◌^◌, ◌≤◌, ◌<◌}
 use Rattle.inner.specs.Inner.{strided}
-use Rattle.algebra.proofs.Congruent.{one_more}
-use Rattle.inner.proofs.Inner.{strided-start, strided_next, stride-start, stride-inside, stride_next}
 use Rattle.inner.proofs.strided_words.Given as goal
 
 abbrev pub invariant-loop-i : goal.invariant-loop-i

@@ -1,7 +1,7 @@
 use native.Mathlib.Nat.{mod-lt, le_trans, div-le_self}
 use native.Mathlib.Omega.{arith}
 use borrow.Author.Rules.{rules}
-use Rattle.inverse.proofs.Euclid.{Euclid, begins, next, inverted, ends}
+use Rattle.inverse.proofs.Euclid.{begins, next, inverted, ends}
 use Rattle.algebra.proofs.Sizes.{product-fits}
 use Rattle.inverse.proofs.invert.Goals as goal
 

@@ -1,8 +1,4 @@
-use native.Mathlib.Nat.{mod-lt, le_trans, div-le_self}
-use native.Mathlib.Omega.{arith}
-use borrow.Author.Rules.{rules}
-use Rattle.inverse.proofs.Euclid.{Euclid, begins, next, inverted, ends}
-use Rattle.algebra.proofs.Sizes.{product-fits}
+use Rattle.inverse.proofs.Euclid.{Euclid}
 use Rattle.inverse.proofs.invert.Given as goal
 
 abbrev pub invariant-loop-y : goal.invariant-loop-y

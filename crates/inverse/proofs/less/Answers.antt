@@ -2,7 +2,6 @@ use mathlib.Core.Path.{◌∙◌, ap}
 use Prim.Native.Nat.{ℕ, ◌%◌}
 use native.Mathlib.Nat.{add-mod_right}
 use native.Mathlib.Omega.{arith}
-use borrow.Author.Rules.{rules}
 use Rattle.inverse.proofs.less.Goals as goal
 
 pub returns-then-s-t : goal.returns-then-s-t

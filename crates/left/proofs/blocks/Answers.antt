@@ -1,13 +1,10 @@
-use mathlib.Core.Path.{◌≡◌, refl}
-use Prim.Native.Nat.{◌*◌, ◌-◌}
+use mathlib.Core.Path.{refl}
 use native.Mathlib.Omega.{arith}
-use borrow.Author.Rules.{rules}
-use borrow.Author.Tests.{not-true, not-false}
-use lib.ListN.{length, length-drop}
+use lib.ListN.{length-drop}
 use Rattle.algebra.specs.Polynomial.{terms, limit}
 use Rattle.division.proofs.Pieces.{lent, returned}
 use Rattle.division.proofs.Asked.{raised_asked}
-use Rattle.left.proofs.Expanding.{Reached, reached-none, reached-more, reached-no, reached_last, reached_asked}
+use Rattle.left.proofs.Expanding.{reached-none, reached-more, reached-no, reached_last, reached_asked}
 use Rattle.left.proofs.blocks.Goals as goal
 
 pub overflow_mul-w : goal.overflow_mul-w

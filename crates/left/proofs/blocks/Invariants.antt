@@ -1,13 +1,7 @@
-use mathlib.Core.Path.{◌≡◌, refl}
+use mathlib.Core.Path.{◌≡◌}
 use Prim.Native.Nat.{◌*◌, ◌-◌}
-use native.Mathlib.Omega.{arith}
-use borrow.Author.Rules.{rules}
-use borrow.Author.Tests.{not-true, not-false}
-use lib.ListN.{length, length-drop}
-use Rattle.algebra.specs.Polynomial.{terms, limit}
-use Rattle.division.proofs.Pieces.{lent, returned}
-use Rattle.division.proofs.Asked.{raised_asked}
-use Rattle.left.proofs.Expanding.{Reached, reached-none, reached-more, reached-no, reached_last, reached_asked}
+use lib.ListN.{length}
+use Rattle.left.proofs.Expanding.{Reached}
 use Rattle.left.proofs.blocks.Given as goal
 
 abbrev pub invariant-loop-p : goal.invariant-loop-p

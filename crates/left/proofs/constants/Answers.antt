@@ -1,10 +1,10 @@
 use mathlib.Core.Path.{◌≡◌, refl, sym, ap, ◌∙◌}
-use Prim.Native.Nat.{ℕ, ◌*◌, ◌≤◌}
+use Prim.Native.Nat.{ℕ}
 use native.Mathlib.Nat as N
 use native.Mathlib.Omega.{arith}
-use lib.ListN.{replicate, length-replicate}
+use lib.ListN.{length-replicate}
 use Rattle.algebra.specs.Polynomial.{coef, terms, limit}
-use Rattle.polynomial.proofs.Filling.{zeros, Down, down-none, down-more, down-all}
+use Rattle.polynomial.proofs.Filling.{zeros, down-none, down-more, down-all}
 use Rattle.left.proofs.Found.{constant-place}
 use Rattle.left.proofs.constants.Goals as goal
 

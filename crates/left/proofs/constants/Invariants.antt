@@ -1,11 +1,7 @@
-use mathlib.Core.Path.{◌≡◌, refl, sym, ap, ◌∙◌}
-use Prim.Native.Nat.{ℕ, ◌*◌, ◌≤◌}
-use native.Mathlib.Nat as N
-use native.Mathlib.Omega.{arith}
-use lib.ListN.{replicate, length-replicate}
-use Rattle.algebra.specs.Polynomial.{coef, terms, limit}
-use Rattle.polynomial.proofs.Filling.{zeros, Down, down-none, down-more, down-all}
-use Rattle.left.proofs.Found.{constant-place}
+use Prim.Native.Nat.{◌*◌, ◌≤◌}
+use lib.ListN.{replicate}
+use Rattle.algebra.specs.Polynomial.{coef, terms}
+use Rattle.polynomial.proofs.Filling.{Down}
 use Rattle.left.proofs.constants.Given as goal
 
 -- the places above i have their constants, and the others are zero still

@@ -1,8 +1,6 @@
 use mathlib.Core.Path.{sym}
 use native.Mathlib.Omega.{arith}
-use borrow.Author.Rules.{rules}
 use lib.Seq.{length-take-le}
-use Rattle.algebra.specs.Polynomial.{terms, limit}
 use Rattle.left.proofs.Expanding.{lowest_digit}
 use Rattle.left.proofs.digit.Goals as goal
 

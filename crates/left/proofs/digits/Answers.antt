@@ -1,11 +1,9 @@
-use Prim.Native.Nat.{◌-◌}
 use native.Mathlib.Omega.{arith}
 use borrow.Author.Rules.{rules}
-use borrow.Author.Tests.{not-true, not-false}
-use lib.ListN.{length, length-drop, take-append-drop}
+use lib.ListN.{length-drop, take-append-drop}
 use Rattle.algebra.specs.Polynomial.{terms, limit}
 use Rattle.division.proofs.Pieces.{lent, returned}
-use Rattle.left.proofs.Expanding.{Reached, reached-none, reached-more, reached-no, reached_last, reached_asked, flat_digits}
+use Rattle.left.proofs.Expanding.{reached-none, reached-more, reached-no, reached_last, reached_asked, flat_digits}
 use Rattle.left.proofs.digits.Goals as goal
 
 pub loop-p-init : goal.loop-p-init

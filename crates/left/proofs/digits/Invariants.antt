@@ -1,11 +1,6 @@
 use Prim.Native.Nat.{◌-◌}
-use native.Mathlib.Omega.{arith}
-use borrow.Author.Rules.{rules}
-use borrow.Author.Tests.{not-true, not-false}
-use lib.ListN.{length, length-drop, take-append-drop}
-use Rattle.algebra.specs.Polynomial.{terms, limit}
-use Rattle.division.proofs.Pieces.{lent, returned}
-use Rattle.left.proofs.Expanding.{Reached, reached-none, reached-more, reached-no, reached_last, reached_asked, flat_digits}
+use lib.ListN.{length}
+use Rattle.left.proofs.Expanding.{Reached}
 use Rattle.left.proofs.digits.Given as goal
 
 abbrev pub invariant-loop-p : goal.invariant-loop-p

@@ -1,8 +1,6 @@
 use mathlib.Core.Path.{refl, sym}
 use native.Mathlib.Nat as N
 use native.Mathlib.Omega.{arith}
-use borrow.Author.Rules.{rules}
-use borrow.Author.Tests.{not-true, not-false}
 use Rattle.algebra.specs.Polynomial.{terms, limit}
 use Rattle.division.proofs.Pieces.{lent, returned}
 use Rattle.left.proofs.Expanding.{digits_long, lowest_no, reached-first, reached_last, reached_asked}

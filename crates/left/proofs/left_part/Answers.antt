@@ -1,7 +1,5 @@
 use mathlib.Core.Path.{refl, sym, ap, ◌∙◌}
 use native.Mathlib.Omega.{arith}
-use borrow.Author.Rules.{rules}
-use borrow.Author.Tests.{not-true, not-false}
 use lib.Seq.{length-take-le}
 use Rattle.algebra.specs.Polynomial.{terms, limit}
 use Rattle.polynomial.specs.Answers.{nothing}

@@ -1,6 +1,5 @@
 use mathlib.Core.Path.{refl}
 use native.Mathlib.Omega.{arith}
-use borrow.Author.Rules.{rules}
 use Rattle.algebra.proofs.Congruent.{reduced}
 use Rattle.moving.proofs.Scaling.{powers_cancel, changed-pair-is}
 use Rattle.moving.proofs.changed_pair.Goals as goal

@@ -1,6 +1,5 @@
 use Rattle.algebra.specs.Polynomial.{limit, terms}
 use Rattle.moving.proofs.Moving.{some-line}
-use borrow.Author.Rules.{rules}
 use Rattle.moving.proofs.line.Goals as goal
 
 -- what the stores make of an array of zeros is the line by computation

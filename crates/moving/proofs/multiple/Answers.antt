@@ -1,9 +1,8 @@
 use mathlib.Core.Path.{refl, sym, ap, ◌∙◌}
-use Prim.Native.Nat.{ℕ, ◌-◌, ◌*◌, ◌%◌, ◌≤◌}
+use Prim.Native.Nat.{ℕ, ◌%◌}
 use native.Mathlib.Omega.{arith}
-use borrow.Author.Rules.{rules}
-use Rattle.algebra.specs.Polynomial.{coef, limit, terms, reduced}
-use Rattle.polynomial.proofs.Filling.{Filled, filled_none, filled_more, filled-all}
+use Rattle.algebra.specs.Polynomial.{limit, terms, reduced}
+use Rattle.polynomial.proofs.Filling.{filled_none, filled_more, filled-all}
 use Rattle.algebra.proofs.Numbers.{table_ext}
 use Rattle.algebra.proofs.Coefficients.{coef-scaled}
 use Rattle.moving.proofs.multiple.Goals as goal

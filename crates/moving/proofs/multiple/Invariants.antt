@@ -1,11 +1,6 @@
-use mathlib.Core.Path.{refl, sym, ap, ◌∙◌}
-use Prim.Native.Nat.{ℕ, ◌-◌, ◌*◌, ◌%◌, ◌≤◌}
-use native.Mathlib.Omega.{arith}
-use borrow.Author.Rules.{rules}
-use Rattle.algebra.specs.Polynomial.{coef, limit, terms, reduced}
-use Rattle.polynomial.proofs.Filling.{Filled, filled_none, filled_more, filled-all}
-use Rattle.algebra.proofs.Numbers.{table_ext}
-use Rattle.algebra.proofs.Coefficients.{coef-scaled}
+use Prim.Native.Nat.{◌-◌, ◌*◌, ◌%◌, ◌≤◌}
+use Rattle.algebra.specs.Polynomial.{coef, terms}
+use Rattle.polynomial.proofs.Filling.{Filled}
 use Rattle.moving.proofs.multiple.Given as goal
 
 -- the places below k are multiplied

@@ -1,5 +1,4 @@
 use mathlib.Core.Path.{sym, ◌∙◌}
-use borrow.Author.Rules.{rules}
 use Rattle.pair.proofs.Answering.{checked_refused, checked_fit, checked_misfit}
 use Rattle.pair.proofs.check_split.Goals as goal
 

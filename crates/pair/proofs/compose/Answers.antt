@@ -1,6 +1,5 @@
 use mathlib.Core.Path.{sym, ◌∙◌}
 use native.Mathlib.Omega.{arith}
-use borrow.Author.Rules.{rules}
 use Rattle.algebra.specs.Polynomial.{limit, terms}
 use Rattle.composition.proofs.Horner.{held-ends}
 use Rattle.pair.proofs.Answering.{composed-refused, composed-told}

@@ -1,4 +1,3 @@
-use borrow.Author.Rules.{rules}
 use borrow.Author.Tests.{le-leb, lt-leb, eq-eqb, ne_eqb}
 use Rattle.pair.specs.Pairing.{fits}
 use Rattle.pair.proofs.fits.Goals as goal

@@ -1,7 +1,5 @@
 use mathlib.Core.Path.{sym, ◌∙◌}
 use native.Mathlib.Omega.{arith}
-use borrow.Author.Rules.{rules}
-use borrow.Author.Tests.{not-true, not-false}
 use Rattle.algebra.specs.Polynomial.{limit, terms}
 use Rattle.refusal.proofs.Outcomes.{answered}
 use Rattle.polynomial.proofs.Acceptance.{accepted-modulus, accepted-two, accepted_as}

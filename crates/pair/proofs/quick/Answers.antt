@@ -1,6 +1,5 @@
 use mathlib.Core.Path.{sym, ◌∙◌}
 use native.Mathlib.Omega.{arith}
-use borrow.Author.Rules.{rules}
 use Rattle.algebra.specs.Polynomial.{limit, terms}
 use Rattle.inverse.proofs.Inverses.{inverse-coprime, shared_not_coprime}
 use Rattle.pair.proofs.Answering.{quick_refused, quick_shared, quick_told}

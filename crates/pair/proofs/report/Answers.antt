@@ -2,8 +2,6 @@ use mathlib.Core.Path.{refl, sym, ap, ◌∙◌}
 use Prim.Native.Nat.{ℕ, ◌%◌}
 use native.Mathlib.Nat.{mul_comm, mod-eq_of_lt}
 use native.Mathlib.Omega.{arith}
-use borrow.Author.Rules.{rules}
-use borrow.Author.Tests.{not-true}
 use Rattle.algebra.specs.Polynomial.{limit, terms}
 use Rattle.right.specs.Rows.{words}
 use Rattle.right.proofs.Columns.{right_twice, room-none}

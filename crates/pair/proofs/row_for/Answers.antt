@@ -1,5 +1,4 @@
 use native.Mathlib.Omega.{arith}
-use borrow.Author.Rules.{rules}
 use Rattle.binomial.specs.Triangle.{rows}
 use Rattle.pair.proofs.row_for.Goals as goal
 

@@ -1,6 +1,5 @@
 use mathlib.Core.Path.{sym, ◌∙◌}
 use native.Mathlib.Omega.{arith}
-use borrow.Author.Rules.{rules}
 use Rattle.algebra.specs.Polynomial.{limit, terms}
 use Rattle.pair.proofs.Answering.{split_refused, split_told}
 use Rattle.pair.proofs.Determined.{split_modulus, split_given}

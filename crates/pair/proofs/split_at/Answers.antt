@@ -1,6 +1,5 @@
 use mathlib.Core.Path.{refl}
 use native.Mathlib.Omega.{arith}
-use borrow.Author.Rules.{rules}
 use Rattle.binomial.specs.Triangle.{rows}
 use Rattle.binomial.proofs.Pascal.{table-end, table-row}
 use Rattle.pair.proofs.Forcing.{below_rows}

@@ -2,8 +2,6 @@ use mathlib.Core.Path.{sym, ap, ◌∙◌}
 use Prim.Native.Nat.{ℕ, ◌%◌}
 use native.Mathlib.Nat.{mul_comm, mod-eq_of_lt}
 use native.Mathlib.Omega.{arith}
-use borrow.Author.Rules.{rules}
-use borrow.Author.Tests.{not-true}
 use Rattle.algebra.specs.Polynomial.{limit, terms}
 use Rattle.inverse.proofs.Inverses.{inverse-coprime, shared_not_coprime}
 use Rattle.polynomial.specs.Answers.{no_parts}

@@ -1,5 +1,4 @@
 use mathlib.Core.Path.{sym, ◌∙◌}
-use borrow.Author.Rules.{rules}
 use native.Mathlib.Omega.{arith}
 use Rattle.right.proofs.Columns.{right_twice}
 use Rattle.pair.proofs.Forcing.{asked_left, forced-refused, forced-found}

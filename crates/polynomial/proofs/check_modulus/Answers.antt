@@ -1,6 +1,5 @@
 use mathlib.Core.Path.{sym, ◌∙◌}
 use native.Mathlib.Omega.{arith}
-use borrow.Author.Rules.{rules}
 use Rattle.polynomial.specs.Moduli.{machine_words, smallest, largest}
 use Rattle.polynomial.proofs.Moduli.{words-taken, within-taken, below-refused, above-refused}
 use Rattle.polynomial.proofs.check_modulus.Goals as goal

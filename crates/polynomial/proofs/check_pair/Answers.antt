@@ -1,6 +1,5 @@
 use Rattle.polynomial.proofs.Acceptance.{degrees-multiply, above-limit, within-limit}
 use native.Mathlib.Omega.{arith}
-use borrow.Author.Rules.{rules}
 use Rattle.algebra.specs.Polynomial.{limit, terms}
 use Rattle.refusal.proofs.Outcomes.{stopped, went_on}
 use Rattle.polynomial.specs.Checks.{check_pair}

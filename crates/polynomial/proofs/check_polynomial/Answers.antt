@@ -4,7 +4,6 @@ use borrow.Author.Tests.{lt-ltb, le-ltb, eq-eqb, ne_eqb}
 use Rattle.algebra.specs.Polynomial.{terms, limit}
 use Rattle.polynomial.specs.Checks.{check_polynomial, check_coefficients, check_degree, check_leading}
 use Rattle.algebra.proofs.Highest.{degree-below}
-use borrow.Author.Rules.{rules}
 use Rattle.polynomial.proofs.check_polynomial.Goals as goal
 
 pub overflow_cast-i : goal.overflow_cast-i

@@ -1,6 +1,5 @@
 use Rattle.refusal.proofs.Outcomes.{stopped, went_on}
 use Rattle.polynomial.proofs.Acceptance.{two-after-one}
-use borrow.Author.Rules.{rules}
 use Rattle.polynomial.proofs.check_two.Goals as goal
 
 pub returns-then-refuses : goal.returns-then-refuses

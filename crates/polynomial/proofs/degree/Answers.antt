@@ -1,8 +1,5 @@
-use mathlib.Core.Path.{◌≡◌, sym, ◌∙◌}
-use Prim.Native.Nat.{◌≤◌}
-use lib.ListN.{length}
+use mathlib.Core.Path.{sym, ◌∙◌}
 use native.Mathlib.Omega.{arith}
-use Rattle.algebra.specs.Polynomial.{highest, degree}
 use Rattle.algebra.proofs.Highest.{highest-start, highest-none, highest_zero, highest-here}
 use Rattle.polynomial.proofs.degree.Goals as goal
 

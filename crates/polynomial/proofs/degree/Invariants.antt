@@ -1,9 +1,7 @@
-use mathlib.Core.Path.{◌≡◌, sym, ◌∙◌}
+use mathlib.Core.Path.{◌≡◌}
 use Prim.Native.Nat.{◌≤◌}
 use lib.ListN.{length}
-use native.Mathlib.Omega.{arith}
 use Rattle.algebra.specs.Polynomial.{highest, degree}
-use Rattle.algebra.proofs.Highest.{highest-start, highest-none, highest_zero, highest-here}
 use Rattle.polynomial.proofs.degree.Given as goal
 
 abbrev pub invariant-loop-d : goal.invariant-loop-d

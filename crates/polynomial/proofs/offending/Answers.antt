@@ -1,8 +1,7 @@
 use mathlib.Core.Path.{◌≡◌, sym, ◌∙◌}
-use Prim.Native.Nat.{◌-◌, ◌≤◌}
 use lib.ListN.{length}
 use native.Mathlib.Omega.{arith}
-use Rattle.polynomial.proofs.Lowest.{Passed, passed_none, passed-more, offending-here, none-offending}
+use Rattle.polynomial.proofs.Lowest.{passed_none, passed-more, offending-here, none-offending}
 use Rattle.polynomial.proofs.offending.Goals as goal
 
 pub loop-i-init : goal.loop-i-init

@@ -1,8 +1,6 @@
-use mathlib.Core.Path.{◌≡◌, sym, ◌∙◌}
 use Prim.Native.Nat.{◌-◌, ◌≤◌}
 use lib.ListN.{length}
-use native.Mathlib.Omega.{arith}
-use Rattle.polynomial.proofs.Lowest.{Passed, passed_none, passed-more, offending-here, none-offending}
+use Rattle.polynomial.proofs.Lowest.{Passed}
 use Rattle.polynomial.proofs.offending.Given as goal
 
 abbrev pub invariant-loop-i : goal.invariant-loop-i

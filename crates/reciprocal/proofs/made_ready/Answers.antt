@@ -1,5 +1,4 @@
 use mathlib.Core.Path.{refl}
-use borrow.Author.Rules.{rules}
 use Rattle.reciprocal.specs.Ready.{reciprocal}
 use Rattle.reciprocal.proofs.made_ready.Goals as goal
 

@@ -1,6 +1,5 @@
 use native.Mathlib.Nat.{lt_of_le_of_lt}
 use native.Mathlib.Omega.{arith}
-use borrow.Author.Rules.{rules}
 use Rattle.reciprocal.proofs.Reciprocals.{reciprocal_near, less_multiple}
 use Rattle.reciprocal.proofs.near.Goals as goal
 

@@ -1,5 +1,4 @@
 use native.Mathlib.Omega.{arith}
-use borrow.Author.Rules.{rules}
 use Rattle.reciprocal.proofs.Reciprocals.{once, twice}
 use Rattle.reciprocal.proofs.remainder.Goals as goal
 

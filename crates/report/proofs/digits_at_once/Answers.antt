@@ -1,9 +1,7 @@
 use mathlib.Core.Path.{refl, sym}
 use native.Mathlib.Nat.{mul-le-mul_right}
 use native.Mathlib.Omega.{arith}
-use borrow.Author.Rules.{rules}
 use lib.Seq.{length-take-le}
-use Rattle.algebra.specs.Polynomial.{terms, limit}
 use Rattle.division.proofs.Asked.{remainder_asked, raised_asked}
 use Rattle.report.proofs.Reporting.{expanded_block}
 use Rattle.report.proofs.digits_at_once.Goals as goal

@@ -1,9 +1,8 @@
 use mathlib.Core.Path.{◌≡◌, refl}
-use Prim.Native.Nat.{◌+◌, ◌*◌, ◌-◌, ◌≤◌}
+use Prim.Native.Nat.{◌+◌, ◌*◌, ◌-◌}
 use native.Mathlib.Omega.{arith}
-use borrow.Author.Rules.{rules}
 use Rattle.algebra.specs.Polynomial.{limit}
-use Rattle.report.proofs.Reporting.{Scanned, scanned_none, scanned_here, scanned_more, scanned_all, digit-end, digit-below}
+use Rattle.report.proofs.Reporting.{scanned_none, scanned_here, scanned_more, scanned_all, digit-end, digit-below}
 use Rattle.report.proofs.highest.Goals as goal
 
 pub loop-j-init : goal.loop-j-init

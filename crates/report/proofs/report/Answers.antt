@@ -2,10 +2,9 @@ use mathlib.Core.Path.{refl, sym, ap, ◌∙◌}
 use Prim.Native.Nat.{ℕ, ◌+◌}
 use native.Mathlib.Nat as N
 use native.Mathlib.Omega.{arith}
-use borrow.Author.Rules.{rules}
 use lib.ListN.{length, drop, length-append}
 use lib.Seq.{length-take-le}
-use Rattle.algebra.specs.Polynomial.{terms, limit}
+use Rattle.algebra.specs.Polynomial.{terms}
 use Rattle.left.proofs.Found.{asked_division, asked_long}
 use Rattle.report.proofs.Reporting.{expanded_wide, expanded_front, digits_report}
 use Rattle.report.proofs.report.Goals as goal

@@ -1,4 +1,4 @@
-use Rattle.std.proofs.Common.{◌∙◌, rules}
+use Rattle.std.proofs.Common.{◌∙◌}
 use Rattle.residue.proofs.multiply.Goals as goal
 
 pub returns-then-m-eq-MACHINE_WORDS : goal.returns-then-m-eq-MACHINE_WORDS

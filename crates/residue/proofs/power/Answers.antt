@@ -1,5 +1,5 @@
-use Rattle.std.proofs.Common.{◌∙◌, ⊎_elim, arith, rules}
-use Rattle.residue.proofs.Powers.{Powers, begun, even, odd, reached}
+use Rattle.std.proofs.Common.{◌∙◌, arith}
+use Rattle.residue.proofs.Powers.{begun, even, odd, reached}
 use Rattle.residue.proofs.power.Goals as goal
 use Rattle.residue.proofs.power.Goals.{then-left-eq1, else-left-eq1}
 

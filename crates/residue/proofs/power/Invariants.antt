@@ -1,5 +1,4 @@
-use Rattle.std.proofs.Common.{◌∙◌, ⊎_elim, arith, rules}
-use Rattle.residue.proofs.Powers.{Powers, begun, even, odd, reached}
+use Rattle.residue.proofs.Powers.{Powers}
 use Rattle.residue.proofs.power.Given as goal
 
 abbrev pub invariant-loop-left : goal.invariant-loop-left

@@ -1,4 +1,4 @@
-use Rattle.std.proofs.Common.{arith, rules}
+use Rattle.std.proofs.Common.{arith}
 use Rattle.algebra.proofs.Congruent.{from_eq, wrapped, remainder}
 use Rattle.residue.proofs.subtract.Goals as goal
 

@@ -1,10 +1,8 @@
 use mathlib.Core.Path.{◌≡◌, refl, ap, ◌∙◌}
-use Prim.Native.Nat.{ℕ, ◌+◌, ◌-◌, ◌%◌, ◌≤◌}
+use Prim.Native.Nat.{ℕ, ◌-◌, ◌%◌}
 use native.Mathlib.Nat.{mod-lt}
-use borrow.Author.Rules.{rules}
 use native.Mathlib.Omega.{arith}
 use Rattle.binomial.specs.Triangle.{rows}
-use Rattle.right.specs.Rows.{Scaled}
 use Rattle.right.proofs.Columns.{scaled-none, scaled-more}
 use Rattle.right.proofs.binomials.Goals as goal
 

@@ -1,11 +1,6 @@
-use mathlib.Core.Path.{◌≡◌, refl, ap, ◌∙◌}
-use Prim.Native.Nat.{ℕ, ◌+◌, ◌-◌, ◌%◌, ◌≤◌}
-use native.Mathlib.Nat.{mod-lt}
-use borrow.Author.Rules.{rules}
-use native.Mathlib.Omega.{arith}
-use Rattle.binomial.specs.Triangle.{rows}
+use mathlib.Core.Path.{◌≡◌}
+use Prim.Native.Nat.{◌+◌, ◌-◌, ◌≤◌}
 use Rattle.right.specs.Rows.{Scaled}
-use Rattle.right.proofs.Columns.{scaled-none, scaled-more}
 use Rattle.right.proofs.binomials.Given as goal
 
 abbrev pub invariant-loop-i : goal.invariant-loop-i

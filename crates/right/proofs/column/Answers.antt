@@ -1,8 +1,8 @@
 use mathlib.Core.Path.{◌≡◌}
-use Prim.Native.Nat.{◌+◌, ◌-◌, ◌*◌, ◌≤◌, ◌<◌}
+use Prim.Native.Nat.{◌+◌, ◌<◌}
 use native.Mathlib.Omega.{arith}
 use Rattle.algebra.specs.Polynomial.{limit, terms}
-use Rattle.right.specs.Rows.{words, Column}
+use Rattle.right.specs.Rows.{words}
 use Rattle.right.proofs.Columns.{column_none, column_more, column_place}
 use Rattle.right.proofs.column.Goals as goal
 

@@ -1,9 +1,6 @@
 use mathlib.Core.Path.{◌≡◌}
-use Prim.Native.Nat.{◌+◌, ◌-◌, ◌*◌, ◌≤◌, ◌<◌}
-use native.Mathlib.Omega.{arith}
-use Rattle.algebra.specs.Polynomial.{limit, terms}
-use Rattle.right.specs.Rows.{words, Column}
-use Rattle.right.proofs.Columns.{column_none, column_more, column_place}
+use Prim.Native.Nat.{◌+◌, ◌-◌, ◌*◌, ◌≤◌}
+use Rattle.right.specs.Rows.{Column}
 use Rattle.right.proofs.column.Given as goal
 
 abbrev pub invariant-loop-i : goal.invariant-loop-i

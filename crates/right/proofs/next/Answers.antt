@@ -1,5 +1,4 @@
 use mathlib.Core.Path.{◌∙◌, refl}
-use borrow.Author.Rules.{rules}
 use native.Mathlib.Omega.{arith}
 use lib.ListN.{length-set}
 use Rattle.algebra.specs.Polynomial.{limit, terms}

@@ -1,10 +1,8 @@
-use mathlib.Core.Path.{◌≡◌, refl, sym, ◌∙◌}
-use Prim.Native.Nat.{◌+◌, ◌-◌, ◌≤◌}
+use mathlib.Core.Path.{refl, sym}
 use native.Mathlib.Omega.{arith}
-use borrow.Author.Rules.{rules}
 use Rattle.algebra.specs.Polynomial.{limit, terms}
 use Rattle.binomial.specs.Triangle.{rows}
-use Rattle.right.specs.Rows.{words, Rows}
+use Rattle.right.specs.Rows.{words}
 use Rattle.right.proofs.Columns.{left_twice, right_twice, rows_none}
 use Rattle.right.proofs.Forcing.{rows_root}
 use Rattle.right.proofs.root.Goals as goal

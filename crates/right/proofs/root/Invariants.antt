@@ -1,12 +1,6 @@
-use mathlib.Core.Path.{◌≡◌, refl, sym, ◌∙◌}
+use mathlib.Core.Path.{◌≡◌}
 use Prim.Native.Nat.{◌+◌, ◌-◌, ◌≤◌}
-use native.Mathlib.Omega.{arith}
-use borrow.Author.Rules.{rules}
-use Rattle.algebra.specs.Polynomial.{limit, terms}
-use Rattle.binomial.specs.Triangle.{rows}
-use Rattle.right.specs.Rows.{words, Rows}
-use Rattle.right.proofs.Columns.{left_twice, right_twice, rows_none}
-use Rattle.right.proofs.Forcing.{rows_root}
+use Rattle.right.specs.Rows.{Rows}
 use Rattle.right.proofs.root.Given as goal
 
 abbrev pub invariant-loop-k : goal.invariant-loop-k

@@ -1,8 +1,7 @@
-use Prim.Native.Nat.{◌-◌, ◌≤◌}
 use native.Mathlib.Omega.{arith}
 use Rattle.algebra.specs.Polynomial.{limit, terms}
 use Rattle.right.specs.Rows.{words}
-use Rattle.right.proofs.Turning.{Turned, turned_none, turned_more, turned-end}
+use Rattle.right.proofs.Turning.{turned_none, turned_more, turned-end}
 use Rattle.right.proofs.upside.Goals as goal
 
 pub loop-k-init : goal.loop-k-init

@@ -1,8 +1,5 @@
 use Prim.Native.Nat.{◌-◌, ◌≤◌}
-use native.Mathlib.Omega.{arith}
-use Rattle.algebra.specs.Polynomial.{limit, terms}
-use Rattle.right.specs.Rows.{words}
-use Rattle.right.proofs.Turning.{Turned, turned_none, turned_more, turned-end}
+use Rattle.right.proofs.Turning.{Turned}
 use Rattle.right.proofs.upside.Given as goal
 
 abbrev pub invariant-loop-k : goal.invariant-loop-k

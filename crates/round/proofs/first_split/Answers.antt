@@ -1,12 +1,9 @@
 use mathlib.Core.Path.{sym, ◌∙◌}
-use Prim.Native.Nat.{◌+◌, ◌-◌, ◌/◌, ◌≤◌}
 use native.Mathlib.Omega.{arith}
-use borrow.Author.Rules.{rules}
-use borrow.Author.Tests.{not-true, not-false}
 use Rattle.algebra.specs.Polynomial.{terms, limit}
-use Rattle.right.specs.Rows.{words, Space}
+use Rattle.right.specs.Rows.{words}
 use Rattle.right.proofs.Columns.{room-none}
-use Rattle.round.proofs.Rounds.{Passed, passed_none, passed-few, passed_over, passed_missed, passed_hit, passed-all, asked_at, coprime-at, open_at, none-at, hit, miss}
+use Rattle.round.proofs.Rounds.{passed_none, passed-few, passed_over, passed_missed, passed_hit, passed-all, asked_at, coprime-at, open_at, none-at, hit, miss}
 use Rattle.round.proofs.first_split.Goals as goal
 
 pub loop-s-init : goal.loop-s-init

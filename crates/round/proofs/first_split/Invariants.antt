@@ -1,12 +1,6 @@
-use mathlib.Core.Path.{sym, ◌∙◌}
 use Prim.Native.Nat.{◌+◌, ◌-◌, ◌/◌, ◌≤◌}
-use native.Mathlib.Omega.{arith}
-use borrow.Author.Rules.{rules}
-use borrow.Author.Tests.{not-true, not-false}
-use Rattle.algebra.specs.Polynomial.{terms, limit}
-use Rattle.right.specs.Rows.{words, Space}
-use Rattle.right.proofs.Columns.{room-none}
-use Rattle.round.proofs.Rounds.{Passed, passed_none, passed-few, passed_over, passed_missed, passed_hit, passed-all, asked_at, coprime-at, open_at, none-at, hit, miss}
+use Rattle.right.specs.Rows.{Space}
+use Rattle.round.proofs.Rounds.{Passed}
 use Rattle.round.proofs.first_split.Given as goal
 
 abbrev pub invariant-loop-s : goal.invariant-loop-s

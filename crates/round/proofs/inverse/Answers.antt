@@ -1,4 +1,3 @@
-use borrow.Author.Rules.{rules}
 use Rattle.inverse.proofs.Inverses.{shared_not_coprime}
 use Rattle.round.proofs.inverse.Goals as goal
 

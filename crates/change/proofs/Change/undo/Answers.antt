@@ -1,8 +1,5 @@
-use mathlib.Core.Path.{◌≡◌, refl, ap, ◌∙◌}
-use borrow.Author.Rules.{rules}
+use mathlib.Core.Path.{refl, ap, ◌∙◌}
 use borrow.Author.Tests.{not-true, not-false}
-use Rattle.refusal.specs.declared.Outcome.TheVariants.{Answered}
-use Rattle.polynomial.specs.Moduli.{check_modulus}
 use Rattle.change.specs.Changing.{unchanged, refused, not_proper, undone}
 use Rattle.refusal.proofs.Outcomes.{refused_by, passed_on}
 use Rattle.polynomial.proofs.Acceptance.{accepted-modulus}
