@@ -3,7 +3,7 @@
 --   forced-top         the forced pair agrees with f at the s leading terms
 --   forced-differs     another left part may tell it, where it differs from f at no power x^(is)
 --   report_above       the report is no power x^(is), so never 0
---   one-less, report_low    x^(n-s) is a power x^(is), and the report is below it
+--   one_less, report_low    x^(n-s) is a power x^(is), and the report is below it
 --   nearest            no pair whatever agrees with f above a lower power: the report needs no forced pair to be said
 --   report_unique      so there is one
 --   report_refutes     where there is one, there is no pair

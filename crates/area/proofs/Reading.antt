@@ -5,7 +5,7 @@
 --   part-full, part_empty   a part that is handed out, and one that is not, by the words of its place
 --   place_after             the words of place k, after those of the places before it
 --   fills_full              parts that fill their places, one after the other
---   read-back               the parts that were written are handed out
+--   read_back               the parts that were written are handed out
 --   written-long            an area is as long as it was
 --   read_past               and after the last of them nothing
 --   parts-handed            so parts of a chain that were written are what the area hands out

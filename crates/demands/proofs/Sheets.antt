@@ -10,7 +10,7 @@
 --   chain_sheet             the same for the sheet alone
 --   unused_refused, blank_refused     a sheet with no used place is refused by No. 12; so are zero bytes
 --   read_write              an accepted sheet, read and written: the same bytes
---   read-back               written over itself, it does not change
+--   read_back               written over itself, it does not change
 use mathlib.Core.Path.{◌≡◌, refl, sym, ap, ap₂, subst, ◌∙◌}
 use mathlib.Core.Bool.{Bool, false, not}
 use mathlib.Core.List.{List, ◌++◌, append-nil}

@@ -1,6 +1,6 @@
 -- Places of zeros.
 --
---   at-zero       what has no other word is all zero
+--   at_zero       what has no other word is all zero
 --   all_zeros     and is a list of zeros
 use mathlib.Core.Path.{◌≡◌, refl, ap₂}
 use mathlib.Core.Bool.{true}
