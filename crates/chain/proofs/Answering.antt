@@ -12,8 +12,8 @@ use Rattle.algebra.specs.Polynomial.{degree, terms}
 use Rattle.refusal.specs.Refusal.{refusal, is_refused}
 use Rattle.refusal.specs.declared.Concerns.TheVariants.{Neither}
 use Rattle.refusal.specs.declared.Reason.TheVariants.{Area}
-use Rattle.refusal.specs.declared.Outcome.{Outcome}
-use Rattle.refusal.specs.declared.Outcome.TheVariants.{Answered}
+use Rattle.refusal.specs.Refusal.{Outcome}
+use Rattle.refusal.specs.Refusal.{Answered}
 use Rattle.refusal.proofs.Outcomes.{answered, a_refusal}
 use Rattle.polynomial.specs.Checks.{check_one}
 use Rattle.polynomial.proofs.Acceptance.{accepted-one, accepted_as}

@@ -13,7 +13,7 @@ use Rattle.algebra.specs.Chain.{price}
 use Rattle.algebra.proofs.Complete.{Chainable}
 use Rattle.algebra.proofs.Every as E
 use Rattle.algebra.proofs.Few as F
-use Rattle.refusal.specs.declared.Outcome.TheVariants.{Answered}
+use Rattle.refusal.specs.Refusal.{Answered}
 use Rattle.refusal.proofs.Outcomes.{never}
 use Rattle.polynomial.specs.Checks.{check_one}
 use Rattle.polynomial.proofs.Acceptance.{accepted-one}

@@ -12,8 +12,8 @@ use Rattle.refusal.specs.Refusal.{refusal}
 use Rattle.refusal.specs.declared.Refusal.{Refusal}
 use Rattle.refusal.specs.declared.Concerns.TheVariants.{Neither}
 use Rattle.refusal.specs.declared.Reason.TheVariants.{Factor, Area, Beyond}
-use Rattle.refusal.specs.declared.Outcome.{Outcome}
-use Rattle.refusal.specs.declared.Outcome.TheVariants.{Answered, Refused}
+use Rattle.refusal.specs.Refusal.{Outcome}
+use Rattle.refusal.specs.Refusal.{Answered, Refused}
 use Rattle.polynomial.specs.Checks.{check_one}
 use Rattle.area.specs.Area.{area_words, cleared, written}
 use Rattle.chains.specs.declared.Numbered.{Numbered}

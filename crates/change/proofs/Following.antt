@@ -19,7 +19,7 @@ use Rattle.algebra.proofs.Factors.{invertible-one, invertible-pow}
 use Rattle.algebra.proofs.Changes.{changed-pair_numbers, changed-monic, changed_numbers, changed-combined, changed_by_nothing, changed-undone, changed-right-monic, changed-pair_equal, changed-pair-combined, changed-pair_by_nothing}
 use Rattle.refusal.specs.Refusal.{is_refused}
 use Rattle.refusal.specs.declared.Concerns.TheVariants.{First}
-use Rattle.refusal.specs.declared.Outcome.TheVariants.{Answered}
+use Rattle.refusal.specs.Refusal.{Answered}
 use Rattle.refusal.proofs.Outcomes.{then_both}
 use Rattle.polynomial.specs.Checks.{check_polynomial, check_one, check_two, check_pair, Accepted}
 use Rattle.polynomial.specs.Moduli.{check_modulus}

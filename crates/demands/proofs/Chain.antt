@@ -20,7 +20,7 @@ use Rattle.algebra.proofs.Chains as C
 use Rattle.refusal.specs.Refusal.{refusal}
 use Rattle.refusal.specs.declared.Concerns.TheVariants.{Neither}
 use Rattle.refusal.specs.declared.Reason.TheVariants.{Factor}
-use Rattle.refusal.specs.declared.Outcome.TheVariants.{Answered}
+use Rattle.refusal.specs.Refusal.{Answered}
 use Rattle.refusal.proofs.Outcomes.{never}
 use Rattle.polynomial.specs.Checks.{check_one, Accepted}
 use Rattle.polynomial.proofs.Acceptance.{accepted-one, one-accepted, accepted-above, accepted-changed, degree-fits}

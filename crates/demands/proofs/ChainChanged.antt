@@ -11,8 +11,8 @@ use lib.ListN.{length}
 use Rattle.algebra.specs.Polynomial.{degree}
 use Rattle.algebra.specs.Chain.{degrees}
 use Rattle.refusal.specs.declared.Refusal.{Refusal}
-use Rattle.refusal.specs.declared.Outcome.{Outcome}
-use Rattle.refusal.specs.declared.Outcome.TheVariants.{Answered, Refused}
+use Rattle.refusal.specs.Refusal.{Outcome}
+use Rattle.refusal.specs.Refusal.{Answered, Refused}
 use Rattle.refusal.proofs.Outcomes.{never}
 use Rattle.polynomial.specs.Checks.{Accepted}
 use Rattle.polynomial.proofs.Acceptance.{one-accepted, accepted-changed, accepted-one}

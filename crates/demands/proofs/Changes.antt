@@ -15,7 +15,7 @@ use Rattle.algebra.specs.Pair.{Normal}
 use Rattle.algebra.proofs.Polynomials.{same_refl}
 use Rattle.algebra.proofs.Factors.{invertible-one}
 use Rattle.algebra.proofs.Changes.{changed_by_nothing, changed-pair, changed-right-monic}
-use Rattle.refusal.specs.declared.Outcome.TheVariants.{Answered}
+use Rattle.refusal.specs.Refusal.{Answered}
 use Rattle.refusal.proofs.Outcomes.{never}
 use Rattle.polynomial.specs.Moduli.{check_modulus}
 use Rattle.polynomial.specs.Answers.{no_parts}

@@ -66,8 +66,8 @@ use Rattle.algebra.proofs.Lists.{earlier_not, earlier_trans}
 use Rattle.refusal.specs.Refusal.{refusal}
 use Rattle.refusal.specs.declared.Concerns.TheVariants.{Neither}
 use Rattle.refusal.specs.declared.Reason.TheVariants.{Depth, Beyond}
-use Rattle.refusal.specs.declared.Outcome.{Outcome}
-use Rattle.refusal.specs.declared.Outcome.TheVariants.{Answered}
+use Rattle.refusal.specs.Refusal.{Outcome}
+use Rattle.refusal.specs.Refusal.{Answered}
 use Rattle.polynomial.specs.Moduli.{modulus, check_modulus}
 use Rattle.polynomial.specs.Checks.{check_one, Accepted}
 use Rattle.polynomial.specs.declared.Answer.{Answer}

@@ -14,7 +14,7 @@ use Rattle.algebra.specs.Polynomial.{degree}
 use Rattle.refusal.specs.Refusal.{number_of, refusal}
 use Rattle.refusal.specs.declared.Concerns.TheVariants.{Neither}
 use Rattle.refusal.specs.declared.Reason.TheVariants.{Factor, NoPair}
-use Rattle.refusal.specs.declared.Outcome.TheVariants.{Answered}
+use Rattle.refusal.specs.Refusal.{Answered}
 use Rattle.refusal.proofs.Outcomes.{never}
 use Rattle.polynomial.specs.Checks.{Accepted}
 use Rattle.polynomial.specs.Answers.{nothing, no_parts}

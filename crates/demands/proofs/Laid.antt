@@ -22,7 +22,7 @@ use Rattle.algebra.specs.Chain.{part, Part, composed, degrees, product}
 use Rattle.algebra.proofs.Reduction.{reduced-reduced, reduced_equal}
 use Rattle.algebra.proofs.Polynomials.{same_sym, ◌⨾◌}
 use Rattle.refusal.specs.declared.Concerns.TheVariants.{Place}
-use Rattle.refusal.specs.declared.Outcome.TheVariants.{Answered}
+use Rattle.refusal.specs.Refusal.{Answered}
 use Rattle.polynomial.specs.Moduli.{modulus}
 use Rattle.polynomial.proofs.Acceptance.{accepted-modulus, polynomial-accepted, degree-fits}
 use Rattle.area.specs.Area.{most_parts, area_words, place, written, part_of, handed_out}

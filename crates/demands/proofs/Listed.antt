@@ -12,7 +12,7 @@ use Rattle.algebra.specs.Polynomial.{degree}
 use Rattle.algebra.specs.Chain.{Chain, degrees, price}
 use Rattle.refusal.specs.Refusal.{number}
 use Rattle.refusal.specs.declared.Reason.TheVariants.{Factor}
-use Rattle.refusal.specs.declared.Outcome.TheVariants.{Answered}
+use Rattle.refusal.specs.Refusal.{Answered}
 use Rattle.refusal.proofs.Outcomes.{never}
 use Rattle.polynomial.specs.Moduli.{modulus}
 use Rattle.polynomial.proofs.Acceptance.{accepted-above}

@@ -22,7 +22,7 @@ use Rattle.algebra.proofs.Factors.{odd_coprime, coprime_odd}
 use Rattle.refusal.specs.Refusal.{refusal}
 use Rattle.refusal.specs.declared.Concerns.TheVariants.{Neither, First}
 use Rattle.refusal.specs.declared.Reason.TheVariants.{Factor, Degree}
-use Rattle.refusal.specs.declared.Outcome.TheVariants.{Answered}
+use Rattle.refusal.specs.Refusal.{Answered}
 use Rattle.polynomial.specs.Moduli.{machine_words, modulus, smallest, largest, check_modulus}
 use Rattle.polynomial.specs.Checks.{offending, check_coefficients, check_degree, check_polynomial, check_one, check_pair}
 use Rattle.polynomial.specs.declared.Answer.{Answer}

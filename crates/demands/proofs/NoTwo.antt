@@ -20,8 +20,8 @@ use Rattle.refusal.specs.declared.Concerns.{Concerns}
 use Rattle.refusal.specs.declared.Concerns.TheVariants.{Neither, First, Second, Place}
 use Rattle.refusal.specs.declared.Reason.{Reason}
 use Rattle.refusal.specs.declared.Reason.TheVariants as reason
-use Rattle.refusal.specs.declared.Outcome.{Outcome}
-use Rattle.refusal.specs.declared.Outcome.TheVariants.{Answered, Refused}
+use Rattle.refusal.specs.Refusal.{Outcome}
+use Rattle.refusal.specs.Refusal.{Answered, Refused}
 use Rattle.refusal.proofs.Outcomes.{never}
 use Rattle.polynomial.specs.Moduli.{machine_words, modulus, smallest, largest, check_modulus}
 use Rattle.polynomial.specs.Checks.{offending, check_coefficients, check_degree, check_leading, check_polynomial, check_one, check_two, check_pair}

@@ -25,7 +25,7 @@ use Rattle.algebra.proofs.Reduction.{reduced_equal}
 use Rattle.algebra.proofs.Factors.{invertible-coprime}
 use Rattle.algebra.proofs.Complete.{Chainable}
 use Rattle.refusal.specs.declared.Reason.TheVariants.{Factor, NoPair}
-use Rattle.refusal.specs.declared.Outcome.TheVariants.{Answered}
+use Rattle.refusal.specs.Refusal.{Answered}
 use Rattle.polynomial.specs.Checks.{check_one, Accepted}
 use Rattle.round.proofs.Asking.{accepted_chainable}
 use Rattle.polynomial.specs.Degrees.{Degrees}

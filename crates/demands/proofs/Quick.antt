@@ -15,7 +15,7 @@ use Rattle.algebra.specs.Polynomial.{after, degree, terms, Same}
 use Rattle.algebra.specs.Pair.{ForcedPair, Differs, Report}
 use Rattle.algebra.proofs.Polynomials.{after_same}
 use Rattle.algebra.proofs.Report.{forced-pair_unique, report_above, report_low}
-use Rattle.refusal.specs.declared.Outcome.TheVariants.{Answered}
+use Rattle.refusal.specs.Refusal.{Answered}
 use Rattle.refusal.proofs.Outcomes.{never}
 use Rattle.polynomial.specs.declared.Parts.{Parts}
 use Rattle.pair.specs.Pairing.{Splits}

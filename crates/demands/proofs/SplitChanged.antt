@@ -18,8 +18,8 @@ use Rattle.algebra.proofs.Factors.{coprime-invertible}
 use Rattle.algebra.proofs.Pairs as P
 use Rattle.algebra.proofs.Report.{report_changed}
 use Rattle.refusal.specs.declared.Refusal.{Refusal}
-use Rattle.refusal.specs.declared.Outcome.{Outcome}
-use Rattle.refusal.specs.declared.Outcome.TheVariants.{Answered, Refused}
+use Rattle.refusal.specs.Refusal.{Outcome}
+use Rattle.refusal.specs.Refusal.{Answered, Refused}
 use Rattle.refusal.proofs.Outcomes.{never}
 use Rattle.polynomial.specs.Checks.{check_one, check_pair, Accepted}
 use Rattle.polynomial.specs.Answers.{no_parts}

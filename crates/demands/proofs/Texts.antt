@@ -11,10 +11,10 @@ use mathlib.Core.List.{List}
 use Prim.Native.Nat.{ℕ, ◌-◌}
 use Rattle.refusal.specs.Refusal.{refusal, refuse, ◌then◌, number_of}
 use Rattle.refusal.specs.declared.Refusal.{Refusal}
-use Rattle.refusal.specs.declared.Outcome.{Outcome}
+use Rattle.refusal.specs.Refusal.{Outcome}
 use Rattle.refusal.specs.declared.Concerns.TheVariants.{Neither, First}
 use Rattle.refusal.specs.declared.Reason.TheVariants.{Degree, Leading, Limit, Spelling, Depth}
-use Rattle.refusal.specs.declared.Outcome.TheVariants.{Answered, Refused}
+use Rattle.refusal.specs.Refusal.{Answered, Refused}
 use Rattle.refusal.proofs.Outcomes.{never}
 use Rattle.polynomial.specs.declared.Answer.{Answer}
 use Rattle.polynomial.specs.Answers.{nothing}

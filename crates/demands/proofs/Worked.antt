@@ -26,7 +26,7 @@ use Rattle.algebra.proofs.Chains.{unsplit-at}
 use Rattle.algebra.proofs.Complete.{Chainable, left_chainable, right_chainable}
 use Rattle.algebra.proofs.Every as E
 use Rattle.refusal.specs.declared.Reason.TheVariants.{Beyond}
-use Rattle.refusal.specs.declared.Outcome.TheVariants.{Answered}
+use Rattle.refusal.specs.Refusal.{Answered}
 use Rattle.polynomial.specs.Moduli.{machine_words, smallest, largest, check_modulus}
 use Rattle.polynomial.specs.Checks.{offending, check_coefficients, check_degree, check_leading, check_polynomial, check_one}
 use Rattle.polynomial.proofs.Acceptance.{one-accepted}

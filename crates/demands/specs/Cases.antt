@@ -10,7 +10,7 @@ use Rattle.algebra.specs.Polynomial.{terms}
 use Rattle.refusal.specs.Refusal.{refusal, number}
 use Rattle.refusal.specs.declared.Concerns.TheVariants.{Neither}
 use Rattle.refusal.specs.declared.Reason.{Reason}
-use Rattle.refusal.specs.declared.Outcome.TheVariants.{Answered}
+use Rattle.refusal.specs.Refusal.{Answered}
 use Rattle.polynomial.specs.Answers.{nothing, no_parts}
 use Rattle.pair.specs.Pairing.{compose, LeftPartOf, Splits}
 use Rattle.change.specs.Changing.{ChangesPolynomial}

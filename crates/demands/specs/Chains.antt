@@ -13,7 +13,7 @@ use Rattle.algebra.specs.Polynomial.{degree, Same}
 use Rattle.algebra.specs.Pair.{Normal, Unsplit}
 use Rattle.algebra.specs.Chain.{Chain, composed, part, Part, degrees, product, price, Carried}
 use Rattle.algebra.specs.Every.{NthChain}
-use Rattle.refusal.specs.declared.Outcome.TheVariants.{Answered}
+use Rattle.refusal.specs.Refusal.{Answered}
 use Rattle.polynomial.specs.Checks.{Accepted}
 use Rattle.change.specs.declared.Change.{Change}
 use Rattle.area.specs.Area.{most_parts, area_words, written, part_of, handed_out}

@@ -6,7 +6,7 @@
 use Rattle.std.specs.Prelude.{◌≡◌, List, ◌++◌, ℕ, ◌≤◌, ◌<◌, length, take, drop}
 use Rattle.algebra.specs.Polynomial.{limit, reduced, Same, Reduced}
 use Rattle.algebra.specs.Chain.{part, Part, composed, degrees, product}
-use Rattle.refusal.specs.declared.Outcome.TheVariants.{Answered}
+use Rattle.refusal.specs.Refusal.{Answered}
 use Rattle.polynomial.specs.Moduli.{modulus, check_modulus}
 use Rattle.area.specs.Area.{most_parts, area_words, place}
 use Rattle.sheet.specs.Sheet.{used, parts_in, Parted}

@@ -7,8 +7,8 @@
 use Rattle.std.specs.Prelude.{◌≡◌, ◌⊎◌, List, ℕ}
 use Rattle.algebra.specs.Polynomial.{Same}
 use Rattle.refusal.specs.Refusal.{number}
-use Rattle.refusal.specs.declared.Outcome.{Outcome}
-use Rattle.refusal.specs.declared.Outcome.TheVariants.{Answered, Refused}
+use Rattle.refusal.specs.Refusal.{Outcome}
+use Rattle.refusal.specs.Refusal.{Answered, Refused}
 use Rattle.polynomial.specs.Checks.{Accepted}
 use Rattle.polynomial.specs.declared.Answer.{Answer}
 use Rattle.text.specs.Grammar.{most_deep}

@@ -8,7 +8,7 @@ use Rattle.algebra.specs.Polynomial.{coef}
 use Rattle.refusal.specs.Refusal.{number_of, refusal}
 use Rattle.refusal.specs.declared.Concerns.TheVariants.{Place}
 use Rattle.refusal.specs.declared.Reason.TheVariants.{Coefficient}
-use Rattle.refusal.specs.declared.Outcome.{Outcome}
+use Rattle.refusal.specs.Refusal.{Outcome}
 use Rattle.polynomial.specs.Moduli.{machine_words}
 
 -- every coefficient is a machine word

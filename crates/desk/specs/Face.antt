@@ -16,8 +16,8 @@
 --   place_of xs i       where part i stands in the area xs: its start and its length, 0 and 0 if it is empty
 use Rattle.std.specs.Prelude.{◌≡◌, Bool, true, false, List, [], ◌∷◌, ℕ, zero, suc, length}
 use Rattle.refusal.specs.Refusal.{number, polynomial, power}
-use Rattle.refusal.specs.declared.Outcome.{Outcome}
-use Rattle.refusal.specs.declared.Outcome.TheVariants.{Answered, Refused}
+use Rattle.refusal.specs.Refusal.{Outcome}
+use Rattle.refusal.specs.Refusal.{Answered, Refused}
 use Rattle.polynomial.specs.declared.Answer.{Answer}
 use Rattle.polynomial.specs.declared.Parts.{Parts}
 use Rattle.pair.specs.declared.Verdict.{Verdict}

@@ -9,26 +9,26 @@ use native.Mathlib.Nat.{one-mul, mod-eq_of_lt, dvd-mod_iff, dvd-mul_right_of_dvd
 use native.Mathlib.Omega.{arith}
 use Rattle.algebra.specs.Number.{Coprime}
 use Rattle.inverse.specs.Inverse.{InverseIs}
-use Rattle.inverse.specs.declared.Inverse.{Inverse}
-use Rattle.inverse.specs.declared.Inverse.TheVariants.{Of, Shared}
+use Rattle.std.specs.Prelude.{Result, Ok, Err}
+use Rattle.inverse.specs.declared.SharedFactor.{SharedFactor}
 use Rattle.algebra.proofs.Congruent.{from_eq, reduced, turn, times, remainder, ◌then◌}
 
-pub inverse-coprime : {a m x : ℕ} → InverseIs a m (Of x) → Coprime a m
+pub inverse-coprime : {a m x : ℕ} → InverseIs a m (Ok x) → Coprime a m
 inverse-coprime {a} {m} {x} e = record {
   only_one = λ d p q. eq-one_of_dvd-one (rw e.1 at ((dvd-mod_iff d q).1 (dvd-mul_right_of_dvd d p x)));
 }
 
-pub shared_not_coprime : {a m d : ℕ} → InverseIs a m (Shared d) → Coprime a m → ⊥
-shared_not_coprime {a} {m} {d} e h = omega (arith, h.only_one d e.1.left e.1.right)
+pub shared_not_coprime : {a m : ℕ} {d : SharedFactor} → InverseIs a m (Err d) → Coprime a m → ⊥
+shared_not_coprime {a} {m} {d} e h = omega (arith, h.only_one d.0 e.1.left e.1.right)
 
-pub inverse_unique : (a m : ℕ) (x y : Inverse) → InverseIs a m x → InverseIs a m y → x ≡ y
-inverse_unique a m (Of x) (Of y) p q =
-    ap Of
+pub inverse_unique : (a m : ℕ) (x y : Result ℕ SharedFactor) → InverseIs a m x → InverseIs a m y → x ≡ y
+inverse_unique a m (Ok x) (Ok y) p q =
+    ap Ok
     (remainder p.0
     (from_eq (sym (one-mul x)) then times x (reduced (sym q.1)) then from_eq (omega arith)
     then times y (turn (reduced (sym p.1))) then from_eq (one-mul y))
     ∙ mod-eq_of_lt q.0)
-inverse_unique a m (Of x) (Shared d) p q = absurd (shared_not_coprime q (inverse-coprime p))
-inverse_unique a m (Shared d) (Of x) p q = absurd (shared_not_coprime p (inverse-coprime q))
-inverse_unique a m (Shared d) (Shared e) p q =
-    ap Shared (dvd_antisymm (q.1.most d p.1.left p.1.right) (p.1.most e q.1.left q.1.right))
+inverse_unique a m (Ok x) (Err d) p q = absurd (shared_not_coprime q (inverse-coprime p))
+inverse_unique a m (Err d) (Ok x) p q = absurd (shared_not_coprime p (inverse-coprime q))
+inverse_unique a m (Err d) (Err e) p q =
+    ap (λ (k : ℕ). Err (record { 0 = k })) (dvd_antisymm (q.1.most d.0 p.1.left p.1.right) (p.1.most e.0 q.1.left q.1.right))

@@ -4,12 +4,22 @@
 ghost use Rattle.std.specs.Prelude.{◌≡◌, ◌+◌, ◌%◌, ◌<◌};
 ghost use Rattle.algebra.specs.Number.{Modulus};
 ghost use Rattle.inverse.specs.Inverse.{InverseIs};
+ghost use Rattle.refusal.specs.Refusal.{naming_none};
+ghost use Rattle.refusal.specs.declared.Reason.TheVariants.{Factor};
 
-// What the search for an inverse finds: it, or the greatest common factor.
-#[derive(Drop)]
-pub enum Inverse {
-    Of(u32),
-    Shared(u64),
+use refusal::{Reason, Refusal};
+
+// Why there is no inverse: the greatest common factor, which is above 1.
+#[derive(Clone, Copy, PartialEq, Eq)]
+pub struct SharedFactor(pub u64);
+
+// No. 5.
+impl From<SharedFactor> for Refusal {
+    ghost from_gives = { λ _ x. x ≡ naming_none Factor };
+
+    fn from(_: SharedFactor) -> Refusal {
+        Reason::Factor.into()
+    }
 }
 
 // t - s modulo m.
@@ -21,7 +31,7 @@ fn less(t: u64, s: u64, m: u64) -> u64
 }
 
 // The inverse of a modulo m, by Euclid's algorithm with coefficients modulo m: no prime is needed and no sign.
-pub fn invert(a: u64, m: u64) -> Inverse
+pub fn invert(a: u64, m: u64) -> Result<u32, SharedFactor>
     requires { Modulus m }
     ensures { InverseIs a m result }
 {
@@ -38,8 +48,8 @@ pub fn invert(a: u64, m: u64) -> Inverse
         t = u;
     }
     if x == 1 {
-        Inverse::Of(s as u32)
+        Ok(s as u32)
     } else {
-        Inverse::Shared(x)
+        Err(SharedFactor(x))
     }
 }

@@ -12,7 +12,7 @@ use lib.ListN.{length}
 use lib.Seq.{sets}
 use Rattle.algebra.specs.Polynomial.{degree}
 use Rattle.refusal.specs.Refusal.{number_of}
-use Rattle.refusal.specs.declared.Outcome.{Outcome}
+use Rattle.refusal.specs.Refusal.{Outcome}
 use Rattle.refusal.proofs.Outcomes.{never}
 use Rattle.digits.specs.Digits.{Put}
 use Rattle.chain.specs.declared.Chained.{Chained}

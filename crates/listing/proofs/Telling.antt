@@ -13,7 +13,7 @@ use lib.ListN.{length, drop, drop_of_length-le, length-replicate}
 use Rattle.algebra.specs.Number.{table}
 use Rattle.algebra.specs.Polynomial.{degree, terms, limit}
 use Rattle.refusal.specs.Refusal.{is_refused, number_of}
-use Rattle.refusal.specs.declared.Outcome.TheVariants.{Answered}
+use Rattle.refusal.specs.Refusal.{Answered}
 use Rattle.refusal.proofs.Outcomes.{never, answered, a_refusal, refused_by}
 use Rattle.digits.specs.Digits.{Put}
 use Rattle.polynomial.specs.Moduli.{modulus}

@@ -13,7 +13,7 @@ use Rattle.algebra.specs.Number.{table}
 use Rattle.algebra.specs.Polynomial.{degree}
 use Rattle.refusal.specs.Refusal.{number}
 use Rattle.refusal.specs.declared.Refusal.{Refusal}
-use Rattle.refusal.specs.declared.Outcome.TheVariants.{Answered, Refused}
+use Rattle.refusal.specs.Refusal.{Answered, Refused}
 use Rattle.digits.specs.Digits.{Put}
 use Rattle.polynomial.specs.Moduli.{modulus}
 use Rattle.area.specs.Area.{area_words, place}

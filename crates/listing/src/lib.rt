@@ -5,7 +5,7 @@ ghost use Rattle.std.specs.Prelude.{◌≡◌, [], ◌∷◌, ◌++◌, ◌+◌,
 ghost use Rattle.refusal.specs.Refusal.{number_of};
 ghost use Rattle.algebra.specs.Number.{table};
 ghost use Rattle.algebra.specs.Polynomial.{degree as degree_of};
-ghost use Rattle.refusal.specs.declared.Outcome.TheVariants.{Answered};
+ghost use Rattle.refusal.specs.Refusal.{Answered};
 ghost use Rattle.binomial.specs.Triangle.{rows, triangle};
 ghost use Rattle.polynomial.specs.Moduli.{modulus};
 ghost use Rattle.polynomial.specs.Checks.{check_one};

@@ -14,7 +14,7 @@ use Rattle.algebra.proofs.Numbers.{mul-same, pow-same, mul-pow, one-pow}
 use Rattle.algebra.proofs.Polynomials.{◌⨾◌, same_sym, plus-same, constant-same, scaled-same, scaled-scaled, scaled-number, scaled-one}
 use Rattle.algebra.proofs.Coefficients.{coef-plus, coef-scaled}
 use Rattle.algebra.proofs.Changes.{changed_numbers}
-use Rattle.refusal.specs.declared.Outcome.TheVariants.{Answered}
+use Rattle.refusal.specs.Refusal.{Answered}
 use Rattle.algebra.proofs.Congruent as congruent
 use Rattle.polynomial.specs.declared.Parts.{Parts}
 use Rattle.moving.specs.Moving.{moved}

@@ -9,7 +9,7 @@ use Rattle.std.specs.Prelude.{◌≡◌, List, [], ◌∷◌, ℕ, ◌*◌, ◌%
 use Rattle.algebra.specs.Number.{Modulus}
 use Rattle.algebra.specs.Polynomial.{coef, value, Reduced}
 use Rattle.algebra.specs.Change.{Changed, ChangedRight, ChangedPair}
-use Rattle.refusal.specs.declared.Outcome.TheVariants.{Answered}
+use Rattle.refusal.specs.Refusal.{Answered}
 use Rattle.polynomial.specs.declared.Parts.{Parts}
 use Rattle.composition.specs.Composition.{composition, Ends}
 

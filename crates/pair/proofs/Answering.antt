@@ -15,8 +15,8 @@ use Rattle.algebra.specs.Polynomial.{degree}
 use Rattle.refusal.specs.Refusal.{refusal, refuse, ◌then◌, is_refused}
 use Rattle.refusal.specs.declared.Concerns.TheVariants.{Neither}
 use Rattle.refusal.specs.declared.Reason.TheVariants.{Fit, Factor}
-use Rattle.refusal.specs.declared.Outcome.{Outcome}
-use Rattle.refusal.specs.declared.Outcome.TheVariants.{Answered}
+use Rattle.refusal.specs.Refusal.{Outcome}
+use Rattle.refusal.specs.Refusal.{Answered}
 use Rattle.refusal.proofs.Outcomes.{then_refused, then_answered, a_refusal, answered}
 use Rattle.polynomial.specs.Checks.{check_one, check_two, check_pair}
 use Rattle.polynomial.specs.Answers.{nothing, no_parts}

@@ -26,8 +26,8 @@ use Rattle.algebra.proofs.Reduction.{reduced-reduced, reduced-same, degree-monic
 use Rattle.algebra.proofs.Factors.{coprime-invertible}
 use Rattle.algebra.proofs.Pairs as P
 use Rattle.refusal.specs.Refusal.{is_refused}
-use Rattle.refusal.specs.declared.Outcome.{Outcome}
-use Rattle.refusal.specs.declared.Outcome.TheVariants.{Answered}
+use Rattle.refusal.specs.Refusal.{Outcome}
+use Rattle.refusal.specs.Refusal.{Answered}
 use Rattle.refusal.proofs.Outcomes.{never, answered, then_both, refuse-answered}
 use Rattle.polynomial.specs.Checks.{check_one, check_two, Accepted}
 use Rattle.polynomial.specs.Answers.{nothing, no_parts}

@@ -28,7 +28,7 @@ use Rattle.algebra.proofs.Report.{report_above, report_refutes}
 use Rattle.algebra.proofs.RightPart as R
 use Rattle.polynomial.specs.Degrees.{Degrees}
 use Rattle.refusal.specs.Refusal.{is_refused}
-use Rattle.refusal.specs.declared.Outcome.TheVariants.{Answered}
+use Rattle.refusal.specs.Refusal.{Answered}
 use Rattle.polynomial.specs.Answers.{nothing, no_parts}
 use Rattle.polynomial.specs.declared.Answer.{Answer}
 use Rattle.polynomial.specs.declared.Parts.{Parts}

@@ -12,7 +12,7 @@ use Rattle.algebra.specs.Polynomial.{degree, terms, Monic}
 use Rattle.algebra.specs.Pair.{NoPair, Report}
 use Rattle.algebra.proofs.Factors.{coprime-invertible}
 use Rattle.algebra.proofs.Report.{report_unique, report_refutes}
-use Rattle.refusal.specs.declared.Outcome.TheVariants.{Answered}
+use Rattle.refusal.specs.Refusal.{Answered}
 use Rattle.refusal.proofs.Outcomes.{never}
 use Rattle.polynomial.proofs.Acceptance.{accepted-above}
 use Rattle.pair.specs.Pairing.{check_split}

@@ -19,8 +19,8 @@ use Rattle.refusal.specs.Refusal.{refusal, refuse, ◌then◌}
 use Rattle.refusal.specs.declared.Refusal.{Refusal}
 use Rattle.refusal.specs.declared.Concerns.TheVariants.{Neither}
 use Rattle.refusal.specs.declared.Reason.TheVariants.{Factor, Fit, NoPair}
-use Rattle.refusal.specs.declared.Outcome.{Outcome}
-use Rattle.refusal.specs.declared.Outcome.TheVariants.{Answered, Refused}
+use Rattle.refusal.specs.Refusal.{Outcome}
+use Rattle.refusal.specs.Refusal.{Answered, Refused}
 use Rattle.polynomial.specs.Checks.{check_one, check_two, check_pair}
 use Rattle.polynomial.specs.Answers.{nothing, no_parts}
 use Rattle.polynomial.specs.declared.Answer.{Answer}

@@ -34,8 +34,8 @@ use Rattle.refusal.specs.Refusal.{◌then◌, is_refused, refusal, refuse}
 use Rattle.refusal.specs.declared.Concerns.{Concerns}
 use Rattle.refusal.specs.declared.Concerns.TheVariants.{Neither, First, Second}
 use Rattle.refusal.specs.declared.Reason.TheVariants.{Limit}
-use Rattle.refusal.specs.declared.Outcome.{Outcome}
-use Rattle.refusal.specs.declared.Outcome.TheVariants.{Answered}
+use Rattle.refusal.specs.Refusal.{Outcome}
+use Rattle.refusal.specs.Refusal.{Answered}
 use Rattle.refusal.proofs.Outcomes.{then_refused, then_both, then_assoc, refuse-answered}
 use Rattle.polynomial.specs.Moduli.{machine_words, smallest, largest, check_modulus}
 use Rattle.polynomial.specs.Checks.{offending, check_coefficients, check_degree, check_leading, check_polynomial, check_one, check_two, check_pair, Accepted}

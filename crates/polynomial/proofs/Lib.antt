@@ -3,3 +3,4 @@ pub mod Moduli
 pub mod Acceptance
 pub mod Filling
 pub mod Below
+pub mod Greatest

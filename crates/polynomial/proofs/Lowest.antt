@@ -9,12 +9,16 @@
 use mathlib.Core.Path.{◌≡◌, refl, sym, ◌∙◌, ap, subst}
 use mathlib.Core.Logic.{⊎_elim}
 use mathlib.Core.List.{List, [], ◌∷◌}
+use mathlib.Core.Bool.{Bool, true, false}
 use Prim.Native.Nat.{ℕ, zero, suc, ◌+◌, ◌≤◌, ◌<◌}
 use native.Mathlib.Nat.{not-suc-le-zero, le_of_suc-le-suc, eq-or-lt_of_le}
 use native.Mathlib.Decide.{dec_le}
 use native.Mathlib.Omega.{arith}
 use lib.ListN.{length}
-use borrow.Author.Tests.{le-leb, lt-leb}
+use lib.Dec.{leb, ltb}
+use borrow.Author.Tests.{le-leb, lt-leb, ltb-true, ltb-false}
+use Rattle.std.specs.Prelude.{Some, None, position}
+use Rattle.std.specs.List.{position_or_len}
 use Rattle.algebra.specs.Polynomial.{coef}
 use Rattle.polynomial.specs.Checks.{offending}
 
@@ -87,3 +91,29 @@ offending_lowest m f l = let (p, o) = stops m f in (o l, p)
 -- there is none: every coefficient is below m
 pub offending-none : (m : ℕ) (f : List ℕ) → length f ≤ offending m f → Passed m f (length f)
 offending-none m f l = record { below = λ j b. (stops m f).0.below j (omega arith) }
+
+-- the first place at which a coefficient is m or more is the lowest offending power
+same_place : (m : ℕ) (f : List ℕ) → position_or_len (λ a. leb m a) f ≡ offending m f
+unfolding offending
+same_place m [] = refl
+same_place m (a ∷ f) = go (same_place m f) (leb m a) refl
+  where
+    go : position_or_len (λ x. leb m x) f ≡ offending m f → (t : Bool) → leb m a ≡ t → position_or_len (λ x. leb m x) (a ∷ f) ≡ offending m (a ∷ f)
+    go h true e = rw (offending, e) refl
+    go h false e = rw (offending, e, h) (omega arith)
+
+-- so `position` finds it where there is one
+pub position_offends : (m : ℕ) (f : List ℕ) {i : ℕ} → position (λ a. leb m a) f ≡ Some i → (i ≡ offending m f) × (i < length f)
+position_offends m f {i} h = go (ltb (offending m f) (length f)) refl
+  where
+    go : (t : Bool) → ltb (offending m f) (length f) ≡ t → (i ≡ offending m f) × (i < length f)
+    go true e = let g : Some (offending m f) ≡ Some i = rw (same_place m f, e) at h in let k : i ≡ offending m f = cc in (k, rw k (ltb-true _ _ e))
+    go false e = let g : None ≡ Some i = rw (same_place m f, e) at h in cc
+
+-- and nothing where there is none
+pub position-none : (m : ℕ) (f : List ℕ) → position (λ a. leb m a) f ≡ None → length f ≤ offending m f
+position-none m f h = go (ltb (offending m f) (length f)) refl
+  where
+    go : (t : Bool) → ltb (offending m f) (length f) ≡ t → length f ≤ offending m f
+    go true e = let g : Some (offending m f) ≡ None = rw (same_place m f, e) at h in cc
+    go false e = ltb-false _ _ e

@@ -16,8 +16,8 @@ use Rattle.refusal.specs.Refusal.{refuse, ◌then◌}
 use Rattle.refusal.specs.declared.Concerns.{Concerns}
 use Rattle.refusal.specs.declared.Concerns.TheVariants.{Neither, First, Second}
 use Rattle.refusal.specs.declared.Reason.TheVariants.{Coefficient, Degree, Leading, Limit}
-use Rattle.refusal.specs.declared.Outcome.{Outcome}
-use Rattle.refusal.specs.declared.Outcome.TheVariants.{Answered}
+use Rattle.refusal.specs.Refusal.{Outcome}
+use Rattle.refusal.specs.Refusal.{Answered}
 use Rattle.polynomial.specs.Moduli.{check_modulus}
 
 -- the lowest offending power of x

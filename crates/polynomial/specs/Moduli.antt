@@ -8,7 +8,7 @@ use Rattle.std.specs.Prelude.{not, ◌&&◌, ◌||◌, ℕ, zero, suc, ◌^◌, 
 use Rattle.refusal.specs.Refusal.{refuse}
 use Rattle.refusal.specs.declared.Concerns.TheVariants.{Neither}
 use Rattle.refusal.specs.declared.Reason.TheVariants.{Modulus}
-use Rattle.refusal.specs.declared.Outcome.{Outcome}
+use Rattle.refusal.specs.Refusal.{Outcome}
 
 -- as many as there are machine words
 unfoldable pub machine_words : ℕ

@@ -1,14 +1,13 @@
 // A polynomial of the desk: its limit, its degree, and the checks 1 to 4 of 01 in their order.
 #![tactic(auto)]
 
-ghost use Rattle.std.specs.Prelude.{◌≡◌, min};
+ghost use Rattle.std.specs.Prelude.{◌≡◌, ◌≢◌, ◌<◌, ℕ, position, nat_le, length, IfNone, IfSome, slice_index};
 ghost use Rattle.algebra.specs.Polynomial.{degree as degree_of};
 ghost use Rattle.polynomial.specs.Moduli.{modulus as modulus_of, check_modulus};
 ghost use Rattle.polynomial.specs.Checks.{offending as offending_power, check_polynomial, check_one, check_two, check_pair, Measured};
-ghost use Rattle.polynomial.specs.Answers.{nothing as nothing_of, no_parts as no_parts_of};
 
 use reciprocal::MACHINE_WORDS;
-use refusal::{Concerns, Outcome, Reason};
+use refusal::{Concerns, Reason, Refusal};
 
 // The highest degree that the desk takes.
 pub const LIMIT: usize = 126;
@@ -24,61 +23,29 @@ const LARGEST: u64 = 2147483647;
 // The coefficients, that of x^0 first.
 pub type Coefficients = [u32; TERMS];
 
-// What an operation on polynomials answers: all zero after a refusal.
-#[derive(Drop)]
-pub struct Answer {
-    pub outcome: Outcome,
-    pub polynomial: Coefficients,
-}
+// All coefficients zero: what 01 returns beside a refusal.
+pub const ZEROS: Coefficients = [0; TERMS];
 
-// What an operation on pairs answers: both all zero after a refusal.
-#[derive(Drop)]
-pub struct Parts {
-    pub outcome: Outcome,
+// A left part and a right part.
+#[derive(Clone, Copy)]
+pub struct Pair {
     pub left: Coefficients,
     pub right: Coefficients,
 }
 
-// Zeros beside an outcome.
-pub fn nothing(outcome: Outcome) -> Answer
-    ensures { result ≡ nothing_of outcome }
+// The largest power whose coefficient is not zero.
+fn highest(f: &[u32]) -> Option<usize>
+    ensures none { IfNone result ((i : ℕ) → i < length f.now → slice_index f.now i ≡ 0) }
+    ensures some { IfSome result (λ k. (k < length f.now) × (slice_index f.now k ≢ 0) × ((i : ℕ) → k < i → i < length f.now → slice_index f.now i ≡ 0)) }
 {
-    Answer {
-        outcome,
-        polynomial: [0; TERMS],
-    }
-}
-
-// Two parts of zeros beside an outcome.
-pub fn no_parts(outcome: Outcome) -> Parts
-    ensures { result ≡ no_parts_of outcome }
-{
-    Parts {
-        outcome,
-        left: [0; TERMS],
-        right: [0; TERMS],
-    }
-}
-
-// The smaller of two numbers.
-pub fn smaller(a: usize, b: usize) -> usize
-    ensures { result ≡ min a b }
-{
-    if a < b { a } else { b }
+    f.iter().rposition(|c| *c != 0)
 }
 
 // The largest power whose coefficient is not zero, and 0 if there is none.
 pub fn degree(f: &[u32]) -> usize
     ensures { result ≡ degree_of f.now }
 {
-    let mut d = f.len();
-    while d != 0 {
-        d -= 1;
-        if f[d] != 0 {
-            return d;
-        }
-    }
-    0
+    highest(f).unwrap_or(0)
 }
 
 // The number that a modulus word means: 0 means 2^32. The operations take the word, and all below them this number.
@@ -88,92 +55,79 @@ pub fn modulus(word: u32) -> u64
     if word == 0 {
         return MACHINE_WORDS;
     }
-    word as u64
+    u64::from(word)
 }
 
-// The lowest power whose coefficient is m or more, and the length of f if there is none.
-fn offending(m: u64, f: &[u32]) -> usize
-    ensures { result ≡ offending_power m f.now }
+// The lowest power whose coefficient is m or more.
+fn offending(m: u64, f: &[u32]) -> Option<usize>
+    ensures { result ≡ position (λ a. nat_le m a) f.now }
 {
-    let mut i = 0;
-    while i < f.len() {
-        if m <= f[i] as u64 {
-            return i;
-        }
-        i += 1;
-    }
-    i
+    f.iter().position(|c| m <= u64::from(*c))
 }
 
 // No. 1.
-pub fn check_modulus(m: u64) -> Outcome
+pub fn check_modulus(m: u64) -> Result<(), Refusal>
     ensures { result ≡ check_modulus m }
 {
     if m == MACHINE_WORDS {
-        return Outcome::Answered;
+        return Ok(());
     }
     if m < SMALLEST {
-        return refusal::refused(Concerns::Neither, Reason::Modulus);
+        return Err(Reason::Modulus.into());
     }
     if LARGEST < m {
-        return refusal::refused(Concerns::Neither, Reason::Modulus);
+        return Err(Reason::Modulus.into());
     }
-    Outcome::Answered
+    Ok(())
 }
 
 // Nos. 2, 3 and 4 of a polynomial, whose degree the caller has found.
-pub fn check_polynomial(concerns: Concerns, m: u64, f: &[u32], degree: usize) -> Outcome
+pub fn check_polynomial(concerns: Concerns, m: u64, f: &[u32], degree: usize) -> Result<(), Refusal>
     requires { Measured degree f.now }
     ensures { result ≡ check_polynomial concerns m f.now }
 {
-    let i = offending(m, f);
-    if i < f.len() {
-        return refusal::refused(concerns, Reason::Coefficient(i as u32));
+    let refused = |reason| Refusal { concerns, reason };
+    if let Some(i) = offending(m, f) {
+        return Err(refused(Reason::Coefficient(i as u32)));
     }
     if degree < 2 {
-        return refusal::refused(concerns, Reason::Degree);
+        return Err(refused(Reason::Degree));
     }
     if f[degree] != 1 {
-        return refusal::refused(concerns, Reason::Leading);
+        return Err(refused(Reason::Leading));
     }
-    Outcome::Answered
+    Ok(())
 }
 
 // The checks of an operation on one polynomial.
-pub fn check_one(m: u64, f: &[u32], degree: usize) -> Outcome
+#[tactic(auto, unfolding(crate::specs::Checks::check_one))]
+pub fn check_one(m: u64, f: &[u32], degree: usize) -> Result<(), Refusal>
     requires { Measured degree f.now }
     ensures { result ≡ check_one m f.now }
 {
-    let o = check_modulus(m);
-    if refusal::refuses(o) {
-        return o;
-    }
+    check_modulus(m)?;
     check_polynomial(Concerns::First, m, f, degree)
 }
 
 // The checks of an operation on two polynomials, f the first and h the second.
-pub fn check_two(m: u64, f: &[u32], n: usize, h: &[u32], s: usize) -> Outcome
+#[tactic(auto, unfolding(crate::specs::Checks::check_one, crate::specs::Checks::check_two))]
+pub fn check_two(m: u64, f: &[u32], n: usize, h: &[u32], s: usize) -> Result<(), Refusal>
     requires { Measured n f.now × Measured s h.now }
     ensures { result ≡ check_two m f.now h.now }
 {
-    let o = check_one(m, f, n);
-    if refusal::refuses(o) {
-        return o;
-    }
+    check_one(m, f, n)?;
     check_polynomial(Concerns::Second, m, h, s)
 }
 
 // The checks of an operation that composes g, the first, and h, the second.
-pub fn check_pair(m: u64, g: &[u32], r: usize, h: &[u32], s: usize) -> Outcome
+#[tactic(auto, unfolding(crate::specs::Checks::check_pair))]
+pub fn check_pair(m: u64, g: &[u32], r: usize, h: &[u32], s: usize) -> Result<(), Refusal>
     requires { Measured r g.now × Measured s h.now }
     ensures { result ≡ check_pair m g.now h.now }
 {
-    let o = check_two(m, g, r, h, s);
-    if refusal::refuses(o) {
-        return o;
-    }
+    check_two(m, g, r, h, s)?;
     if LIMIT < r * s {
-        return refusal::refused(Concerns::Neither, Reason::Limit);
+        return Err(Reason::Limit.into());
     }
-    Outcome::Answered
+    Ok(())
 }

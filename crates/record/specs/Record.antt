@@ -12,8 +12,8 @@ use Rattle.algebra.specs.Polynomial.{terms, degree}
 use Rattle.refusal.specs.Refusal.{refuse, ◌then◌}
 use Rattle.refusal.specs.declared.Concerns.TheVariants.{Neither}
 use Rattle.refusal.specs.declared.Reason.TheVariants.{Short}
-use Rattle.refusal.specs.declared.Outcome.{Outcome}
-use Rattle.refusal.specs.declared.Outcome.TheVariants.{Answered, Refused}
+use Rattle.refusal.specs.Refusal.{Outcome}
+use Rattle.refusal.specs.Refusal.{Answered, Refused}
 use Rattle.polynomial.specs.Moduli.{modulus}
 use Rattle.polynomial.specs.Checks.{check_one}
 use Rattle.record.specs.declared.Checked.{Checked}

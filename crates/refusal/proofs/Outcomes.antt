@@ -17,33 +17,33 @@ use Rattle.refusal.specs.Refusal.{refuse, ◌then◌, is_refused}
 use Rattle.refusal.specs.declared.Concerns.{Concerns}
 use Rattle.refusal.specs.declared.Reason.{Reason}
 use Rattle.refusal.specs.declared.Refusal.{Refusal}
-use Rattle.refusal.specs.declared.Outcome.{Outcome}
-use Rattle.refusal.specs.declared.Outcome.TheVariants.{Answered, Refused}
+use Rattle.refusal.specs.Refusal.{Outcome, Answered, Refused}
+use Rattle.std.specs.Prelude.{Ok, Err}
 
 -- what does not refuse is Answered
 pub answered : {a : Outcome} → is_refused a ≡ false → a ≡ Answered
-answered {a = Answered} h = refl
-answered {a = Refused r} h = cc
+answered {a = Ok x} h = refl
+answered {a = Err r} h = cc
 
 -- a refuses: a decides
 pub then_refused : {a : Outcome} (b : Outcome) → is_refused a ≡ true → (a then b) ≡ a
-then_refused {a = Answered} b h = cc
-then_refused {a = Refused r} b h = refl
+then_refused {a = Ok x} b h = cc
+then_refused {a = Err r} b h = refl
 
 -- a does not refuse: b decides
 pub then_answered : (a : Outcome) {b : Outcome} → is_refused a ≡ false → (a then b) ≡ b
-then_answered Answered h = refl
-then_answered (Refused r) h = cc
+then_answered (Ok x) h = refl
+then_answered (Err r) h = cc
 
 -- a and then b pass: both pass
 pub then_both : (a b : Outcome) → (a then b) ≡ Answered → (a ≡ Answered) × (b ≡ Answered)
-then_both Answered b h = (refl, h)
-then_both (Refused r) b h = (h, cc)
+then_both (Ok x) b h = (refl, h)
+then_both (Err r) b h = (h, cc)
 
 -- three checks, in either grouping
 pub then_assoc : (a b c : Outcome) → ((a then b) then c) ≡ (a then b then c)
-then_assoc Answered b c = refl
-then_assoc (Refused r) b c = refl
+then_assoc (Ok x) b c = refl
+then_assoc (Err r) b c = refl
 
 module _ {a o : Outcome} {t : Bool} (is : o ≡ a) (tells : t ≡ is_refused o) where
   -- o, the outcome of a, refuses and is returned
@@ -61,8 +61,8 @@ refuse-answered false c r h = refl
 
 -- what refuses is some refusal
 pub a_refusal : (a : Outcome) → is_refused a ≡ true → (r : Refusal) × (a ≡ Refused r)
-a_refusal Answered h = absurd (false≢true h)
-a_refusal (Refused r) h = (r, refl)
+a_refusal (Ok x) h = absurd (false≢true h)
+a_refusal (Err r) h = (r, refl)
 
 module _ {a o : Outcome} {t : Bool} (is : o ≡ a) (tells : t ≡ is_refused o) where
   -- o, the outcome of the check a, refuses

@@ -3,18 +3,32 @@
 --   number reason                01's number
 --   polynomial concerns          0 neither, 1 the first, 2 the second, 16 + i the one in place i
 --   power reason                 the lowest offending power of x for No. 2, and 0 for all others
+--   Outcome                      what a check says: a Result with nothing but a refusal in it
+--   Answered, Refused r          that it does not refuse; that it refuses by r
+--   naming_none reason           the refusal for this reason that names no polynomial
 --   refusal concerns reason      the outcome that is this refusal
 --   refuse test concerns reason  this refusal if the test holds
 --   a then b                     the checks a and then b: the first that refuses decides
 --   is_refused outcome           whether it is a refusal
 --   number_of outcome            01's number of it: 0 for an answer
-use Rattle.std.specs.Prelude.{Bool, true, false, ℕ, ◌+◌}
+use Rattle.std.specs.Prelude.{Bool, true, false, ℕ, ◌+◌, Result, Ok, Err}
 use Rattle.refusal.specs.declared.Concerns.{Concerns}
 use Rattle.refusal.specs.declared.Concerns.TheVariants.{Neither, First, Second, Place}
 use Rattle.refusal.specs.declared.Reason.{Reason}
 use Rattle.refusal.specs.declared.Reason.TheVariants.{Modulus, Coefficient, Degree, Leading, Factor, Fit, NoPair, Change, Short, Limit, Area, Sheet, Spelling, Depth, Beyond}
-use Rattle.refusal.specs.declared.Outcome.{Outcome}
-use Rattle.refusal.specs.declared.Outcome.TheVariants.{Answered, Refused}
+use Rattle.refusal.specs.declared.Refusal.{Refusal}
+
+-- what a check says, and whatever an operation says beside its answer
+abbrev pub Outcome : Type 0
+Outcome = Result Unit Refusal
+
+-- it does not refuse
+abbrev pub Answered : Outcome
+Answered = Ok tt
+
+-- it refuses by r
+abbrev pub Refused : Refusal → Outcome
+Refused r = Err r
 
 -- 01's table, and what 02 adds to it
 abbrev pub number : Reason → ℕ
@@ -59,6 +73,10 @@ power Spelling = 0
 power Depth = 0
 power Beyond = 0
 
+-- a refusal that names neither polynomial
+abbrev pub naming_none : Reason → Refusal
+naming_none r = record { concerns = Neither; reason = r }
+
 -- the outcome that is this refusal
 abbrev pub refusal : Concerns → Reason → Outcome
 refusal c r = Refused (record { concerns = c; reason = r })
@@ -71,15 +89,15 @@ refuse false c r = Answered
 -- the first check that refuses decides
 infixr 20 ◌then◌
 abbrev pub ◌then◌ : Outcome → Outcome → Outcome
-Answered then b = b
-Refused r then b = Refused r
+Ok x then b = b
+Err r then b = Err r
 
 -- whether it is a refusal
 abbrev pub is_refused : Outcome → Bool
-is_refused Answered = false
-is_refused (Refused r) = true
+is_refused (Ok x) = false
+is_refused (Err r) = true
 
 -- 0 for an answer
 abbrev pub number_of : Outcome → ℕ
-number_of Answered = 0
-number_of (Refused r) = number r.reason
+number_of (Ok x) = 0
+number_of (Err r) = number r.reason

@@ -18,8 +18,8 @@ use lib.ListN.{length, drop}
 use Rattle.algebra.specs.Polynomial.{limit, reduced}
 use Rattle.algebra.specs.Chain.{composed, degrees, product}
 use Rattle.refusal.specs.Refusal.{◌then◌, is_refused}
-use Rattle.refusal.specs.declared.Outcome.{Outcome}
-use Rattle.refusal.specs.declared.Outcome.TheVariants.{Answered}
+use Rattle.refusal.specs.Refusal.{Outcome}
+use Rattle.refusal.specs.Refusal.{Answered}
 use Rattle.refusal.proofs.Outcomes.{answered, then_refused, then_both, then_assoc, stopped, refused_by, passed_on, refuse-answered}
 use Rattle.polynomial.specs.Moduli.{modulus, check_modulus}
 use Rattle.polynomial.proofs.Acceptance.{neither}

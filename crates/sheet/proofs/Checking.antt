@@ -21,8 +21,8 @@ use Rattle.algebra.specs.Chain.{degrees, product}
 use Rattle.refusal.specs.Refusal.{◌then◌, refuse, is_refused}
 use Rattle.refusal.specs.declared.Concerns.TheVariants.{Neither}
 use Rattle.refusal.specs.declared.Reason.TheVariants.{Sheet, Limit}
-use Rattle.refusal.specs.declared.Outcome.{Outcome}
-use Rattle.refusal.specs.declared.Outcome.TheVariants.{Answered}
+use Rattle.refusal.specs.Refusal.{Outcome}
+use Rattle.refusal.specs.Refusal.{Answered}
 use Rattle.refusal.proofs.Outcomes.{then_refused, then_both}
 use Rattle.area.specs.Area.{most_parts}
 use Rattle.sheet.specs.Sheet.{used, parts_in}

@@ -32,8 +32,8 @@ use Rattle.algebra.proofs.Chains as C
 use Rattle.refusal.specs.Refusal.{refusal}
 use Rattle.refusal.specs.declared.Concerns.TheVariants.{Neither}
 use Rattle.refusal.specs.declared.Reason.TheVariants.{Limit}
-use Rattle.refusal.specs.declared.Outcome.{Outcome}
-use Rattle.refusal.specs.declared.Outcome.TheVariants.{Answered}
+use Rattle.refusal.specs.Refusal.{Outcome}
+use Rattle.refusal.specs.Refusal.{Answered}
 use Rattle.polynomial.proofs.Filling.{zeros}
 use Rattle.composition.specs.Composition.{composition, Composable}
 use Rattle.composition.proofs.Horner.{held-ends}

@@ -4,7 +4,7 @@
 use mathlib.Core.Path.{◌≡◌, sym, ap, ◌∙◌}
 use mathlib.Core.List.{List}
 use Prim.Native.Nat.{ℕ}
-use Rattle.refusal.specs.declared.Outcome.{Outcome}
+use Rattle.refusal.specs.Refusal.{Outcome}
 use Rattle.refusal.proofs.Outcomes.{never}
 use Rattle.sheet.specs.Answers.{unread, ReadsSheet, WritesSheet}
 use Rattle.sheet.specs.Answers as of

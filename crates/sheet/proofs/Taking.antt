@@ -25,8 +25,8 @@ use Rattle.algebra.specs.Chain.{Part}
 use Rattle.refusal.specs.Refusal.{◌then◌, refuse, is_refused}
 use Rattle.refusal.specs.declared.Concerns.TheVariants.{Neither, Place}
 use Rattle.refusal.specs.declared.Reason.TheVariants.{Sheet}
-use Rattle.refusal.specs.declared.Outcome.{Outcome}
-use Rattle.refusal.specs.declared.Outcome.TheVariants.{Answered}
+use Rattle.refusal.specs.Refusal.{Outcome}
+use Rattle.refusal.specs.Refusal.{Answered}
 use Rattle.refusal.proofs.Outcomes.{then_both, refuse-answered}
 use Rattle.polynomial.specs.Moduli.{modulus, check_modulus}
 use Rattle.polynomial.specs.Checks.{check_polynomial, Accepted}

@@ -22,7 +22,7 @@ use Rattle.algebra.specs.Polynomial.{terms}
 use Rattle.refusal.specs.Refusal.{refuse}
 use Rattle.refusal.specs.declared.Concerns.TheVariants.{Neither, Place}
 use Rattle.refusal.specs.declared.Reason.TheVariants.{Sheet}
-use Rattle.refusal.specs.declared.Outcome.TheVariants.{Answered}
+use Rattle.refusal.specs.Refusal.{Answered}
 use Rattle.refusal.proofs.Outcomes.{refuse-answered}
 use Rattle.polynomial.specs.Moduli.{modulus}
 use Rattle.polynomial.specs.Checks.{Accepted}

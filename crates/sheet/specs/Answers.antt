@@ -7,8 +7,8 @@ use Rattle.std.specs.Prelude.{◌≡◌, List, ◌++◌, ℕ, length, drop, repl
 use Rattle.algebra.specs.Polynomial.{terms, reduced}
 use Rattle.algebra.specs.Chain.{composed}
 use Rattle.refusal.specs.declared.Refusal.{Refusal}
-use Rattle.refusal.specs.declared.Outcome.{Outcome}
-use Rattle.refusal.specs.declared.Outcome.TheVariants.{Answered, Refused}
+use Rattle.refusal.specs.Refusal.{Outcome}
+use Rattle.refusal.specs.Refusal.{Answered, Refused}
 use Rattle.polynomial.specs.Moduli.{modulus}
 use Rattle.area.specs.Area.{most_parts, area_words, cleared}
 use Rattle.record.specs.Record.{word}

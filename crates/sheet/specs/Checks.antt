@@ -20,8 +20,8 @@ use Rattle.algebra.specs.Chain.{degrees, product}
 use Rattle.refusal.specs.Refusal.{refuse, ◌then◌}
 use Rattle.refusal.specs.declared.Concerns.TheVariants.{Neither, Place}
 use Rattle.refusal.specs.declared.Reason.TheVariants.{Limit, Area, Sheet}
-use Rattle.refusal.specs.declared.Outcome.{Outcome}
-use Rattle.refusal.specs.declared.Outcome.TheVariants.{Answered}
+use Rattle.refusal.specs.Refusal.{Outcome}
+use Rattle.refusal.specs.Refusal.{Answered}
 use Rattle.polynomial.specs.Moduli.{modulus, check_modulus}
 use Rattle.polynomial.specs.Checks.{check_polynomial}
 use Rattle.area.specs.Area.{most_parts, area_words, place}

@@ -10,8 +10,8 @@
 use Rattle.std.specs.Prelude.{◌≡◌, true, List, ◌++◌, ℕ, ◌*◌, ◌≤◌, ◌<◌, take, drop}
 use Rattle.algebra.specs.Polynomial.{limit, degree, reduced}
 use Rattle.algebra.specs.Chain.{composed, degrees, product}
-use Rattle.refusal.specs.declared.Outcome.{Outcome}
-use Rattle.refusal.specs.declared.Outcome.TheVariants.{Answered}
+use Rattle.refusal.specs.Refusal.{Outcome}
+use Rattle.refusal.specs.Refusal.{Answered}
 use Rattle.area.specs.Area.{most_parts, area_words, place, cleared}
 use Rattle.record.specs.Record.{record_bytes}
 use Rattle.sheet.specs.Sheet.{record_at, used, bytes, area_of, parts_in, Parted}

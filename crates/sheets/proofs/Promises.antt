@@ -20,7 +20,7 @@ use Rattle.algebra.specs.Polynomial.{limit, terms, degree}
 use Rattle.refusal.specs.Refusal.{refusal}
 use Rattle.refusal.specs.declared.Concerns.TheVariants.{Neither}
 use Rattle.refusal.specs.declared.Reason.TheVariants.{Sheet}
-use Rattle.refusal.specs.declared.Outcome.TheVariants.{Answered}
+use Rattle.refusal.specs.Refusal.{Answered}
 use Rattle.refusal.proofs.Outcomes.{never}
 use Rattle.polynomial.specs.Moduli.{modulus}
 use Rattle.area.specs.Area.{area_words}

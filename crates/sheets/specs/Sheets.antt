@@ -10,7 +10,7 @@
 --   Makes b k out             the same as `SheetsOf`, for `RunOf` of `reading/specs/Running`: what a run promises
 use Rattle.std.specs.Prelude.{◌≡◌, List, ℕ, ◌+◌, ◌-◌, ◌*◌, ◌/◌, ◌<◌, length, take, drop, replicate}
 use Rattle.refusal.specs.declared.Refusal.{Refusal}
-use Rattle.refusal.specs.declared.Outcome.TheVariants.{Answered, Refused}
+use Rattle.refusal.specs.Refusal.{Answered, Refused}
 use Rattle.polynomial.specs.Moduli.{modulus}
 use Rattle.area.specs.Area.{area_words}
 use Rattle.record.specs.Record.{word, record_bytes, coefficients, check_record}

@@ -28,7 +28,7 @@ use Rattle.built.specs.Built as built-specs
 use Rattle.built.proofs.Singles.{single-same, single-other, single-high, number-times, x_term, zero_low}
 use Rattle.built.proofs.Joining.{reduced-low}
 use Rattle.refusal.specs.declared.Concerns.TheVariants.{First}
-use Rattle.refusal.specs.declared.Outcome.TheVariants.{Answered}
+use Rattle.refusal.specs.Refusal.{Answered}
 use Rattle.polynomial.specs.declared.Answer.{Answer}
 use Rattle.polynomial.specs.Checks.{check_one, Accepted}
 use Rattle.digits.specs.Digits.{decimal, digits, most_digits, digit}

@@ -16,8 +16,8 @@ use Rattle.algebra.proofs.Reduction.{reduced-reduced}
 use Rattle.refusal.specs.Refusal.{refusal}
 use Rattle.refusal.specs.declared.Concerns.TheVariants.{Neither, First}
 use Rattle.refusal.specs.declared.Reason.TheVariants.{Limit, Spelling, Depth}
-use Rattle.refusal.specs.declared.Outcome.{Outcome}
-use Rattle.refusal.specs.declared.Outcome.TheVariants.{Answered}
+use Rattle.refusal.specs.Refusal.{Outcome}
+use Rattle.refusal.specs.Refusal.{Answered}
 use Rattle.polynomial.specs.declared.Answer.{Answer}
 use Rattle.polynomial.specs.Answers.{nothing}
 use Rattle.polynomial.specs.Moduli.{check_modulus}

@@ -4,7 +4,7 @@
 ghost use Rattle.std.specs.Prelude.{◌≡◌};
 ghost use Rattle.refusal.specs.Refusal.{refusal};
 ghost use Rattle.refusal.specs.declared.Concerns.TheVariants.{Neither};
-ghost use Rattle.refusal.specs.declared.Outcome.TheVariants.{Answered};
+ghost use Rattle.refusal.specs.Refusal.{Answered};
 ghost use Rattle.polynomial.specs.Moduli.{modulus, check_modulus};
 ghost use Rattle.polynomial.specs.Answers.{nothing};
 ghost use Rattle.text.specs.Answers.{Sized, ReadsText};

@@ -6,7 +6,7 @@ use lib.ListN.{length}
 use native.Mathlib.Omega.{arith}
 use Rattle.algebra.specs.Polynomial.{degree, terms, limit}
 use Rattle.refusal.specs.Refusal.{is_refused}
-use Rattle.refusal.specs.declared.Outcome.TheVariants.{Answered}
+use Rattle.refusal.specs.Refusal.{Answered}
 use Rattle.polynomial.specs.Checks.{check_one}
 use Rattle.area.specs.Area.{most_parts, area_words}
 use Rattle.polynomial.proofs.Acceptance.{accepted-modulus, accepted-one}

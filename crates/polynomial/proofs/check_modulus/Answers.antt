@@ -10,11 +10,11 @@ returns-then-m-eq-MACHINE_WORDS c = rw c.if-m-eq-MACHINE_WORDS.true (sym words-t
 
 pub returns-then-m-lt-SMALLEST : goal.returns-then-m-lt-SMALLEST
 unfolding smallest
-returns-then-m-lt-SMALLEST c = c.refused.ensures ∙ sym (below-refused _ (omega arith))
+returns-then-m-lt-SMALLEST c = rw c.into.ensures (sym (below-refused _ (omega arith)))
 
 pub returns-then-m-gt-LARGEST : goal.returns-then-m-gt-LARGEST
 unfolding machine_words largest
-returns-then-m-gt-LARGEST c = c.refused-then-m-gt-LARGEST.ensures ∙ sym (above-refused _ (omega arith) c.if-m-eq-MACHINE_WORDS.false)
+returns-then-m-gt-LARGEST c = rw c.into-then-m-gt-LARGEST.ensures (sym (above-refused _ (omega arith) c.if-m-eq-MACHINE_WORDS.false))
 
 pub returns : goal.returns
 unfolding smallest largest

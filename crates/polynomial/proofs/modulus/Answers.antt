@@ -8,4 +8,4 @@ unfolding machine_words
 returns-then-word-eq0 c = rw c.if-word-eq0.true (sym modulus_zero)
 
 pub returns : goal.returns
-returns c = sym (modulus_itself _ c.if-word-eq0.false)
+returns c = rw c.from.ensures (sym (modulus_itself _ c.if-word-eq0.false))

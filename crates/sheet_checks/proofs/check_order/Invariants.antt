@@ -4,7 +4,7 @@ use Prim.Native.Nat.{◌-◌, ◌≤◌}
 use Rattle.refusal.specs.Refusal.{refuse}
 use Rattle.refusal.specs.declared.Concerns.TheVariants.{Neither}
 use Rattle.refusal.specs.declared.Reason.TheVariants.{Sheet}
-use Rattle.refusal.specs.declared.Outcome.TheVariants.{Answered}
+use Rattle.refusal.specs.Refusal.{Answered}
 use Rattle.area.specs.Area.{place, most_parts}
 use Rattle.sheet.specs.Sheet.{used}
 use Rattle.sheet.specs.Checks.{each, in_order}

@@ -2,7 +2,7 @@ use mathlib.Core.Path.{◌≡◌}
 use mathlib.Core.List.{◌++◌}
 use Prim.Native.Nat.{◌*◌, ◌-◌, ◌≤◌}
 use lib.ListN.{length, drop}
-use Rattle.refusal.specs.declared.Outcome.TheVariants.{Answered}
+use Rattle.refusal.specs.Refusal.{Answered}
 use Rattle.area.specs.Area.{most_parts}
 use Rattle.algebra.specs.Polynomial.{terms}
 use Rattle.sheet.specs.Sheet.{record_at, joined, held}

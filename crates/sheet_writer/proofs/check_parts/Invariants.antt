@@ -1,6 +1,6 @@
 use mathlib.Core.Path.{◌≡◌}
 use Prim.Native.Nat.{◌-◌, ◌≤◌}
-use Rattle.refusal.specs.declared.Outcome.TheVariants.{Answered}
+use Rattle.refusal.specs.Refusal.{Answered}
 use Rattle.area.specs.Area.{place, most_parts}
 use Rattle.sheet.specs.Checks.{each, check_part}
 use Rattle.sheet_writer.proofs.check_parts.Given as goal
