@@ -46,14 +46,10 @@ pub fn at_once(r: usize) -> usize
     requires { 0 < r }
     ensures { (0 < result) × (result ≤ r) }
 {
-    if r < 5 {
-        return 1;
+    match r {
+        ..5 => 1,
+        5..12 => 2,
+        12..32 => 3,
+        _ => 5,
     }
-    if r < 12 {
-        return 2;
-    }
-    if r < 32 {
-        return 3;
-    }
-    5
 }

@@ -1,6 +1,5 @@
 use mathlib.Core.Path.{◌≡◌, refl}
-use Prim.Native.Nat.{◌-◌, ◌<◌}
-use native.Mathlib.Nat.{mod-lt}
+use Prim.Native.Nat.{◌<◌}
 use native.Mathlib.Omega.{arith}
 use Rattle.algebra.specs.Polynomial.{terms}
 use Rattle.division.proofs.Dividing.{dividing_none, dividing_more, dividing_range, divided}
@@ -15,11 +14,6 @@ inner_product-x-requires c =
     let p = c.requires.0 in
     let e = c.loop-i.invariant.long in
     dividing_range (omega arith) (omega arith) (omega arith) (omega arith) (omega (arith, p.right.within, p.right.reduced.long)) p.right.reduced.long c.saturating_sub-lo.ensures c.min-hi.ensures
-
-pub subtract-requires : goal.subtract-requires
-subtract-requires c =
-    let above_zero : 0 < c.args.m.number = omega (arith, c.args.m.modulus.above_one) in
-    (c.args.m.modulus, c.loop-i.invariant.below (c.loop-i.i - 1), rw c.inner_product-x.ensures (mod-lt _ above_zero))
 
 pub loop-i-preserved : goal.loop-i-preserved
 loop-i-preserved c =
