@@ -4,7 +4,6 @@
 
 ghost use Rattle.std.specs.Prelude.{◌≡◌, ◌*◌, ◌≤◌, ◌<◌, length};
 ghost use Rattle.algebra.specs.Polynomial.{limit, Held};
-ghost use Rattle.reciprocal.specs.Ready.{Ready};
 ghost use Rattle.division.specs.Division.{DivisionAsked, Divided, Raised, ConstantIs};
 
 use reciprocal::Divisor;
@@ -42,7 +41,7 @@ pub fn is_constant(p: &[u32]) -> bool
 
 // b, which is h, becomes h^k.
 pub fn raise(b: &mut [u32], h: &[u32], k: usize, s: usize, m: Divisor)
-    requires { Ready m × Held m.number s h.now × (b.old ≡ h.now) × (0 < k) × (k * s ≤ limit) }
+    requires { Held m.number s h.now × (b.old ≡ h.now) × (0 < k) × (k * s ≤ limit) }
     ensures { Raised m.number h.now s k b.new }
 {
     for i in 1..k {

@@ -6,10 +6,9 @@
 #![tactic(auto)]
 
 ghost use Rattle.std.specs.Prelude.{◌≡◌, ◌+◌, ◌-◌, ◌*◌, ◌%◌, ◌^◌, ◌≤◌, ◌<◌, length};
-ghost use Rattle.reciprocal.specs.Ready.{Ready};
 ghost use Rattle.inner.specs.Inner.{inner, Within, strided, Strides};
 
-use reciprocal::Divisor;
+use reciprocal::{Divisor, MACHINE_WORDS};
 
 // A sum of two words, high * 2^64 + low.
 #[derive(Drop)]
@@ -38,25 +37,21 @@ fn added(w: Wide, p: u64) -> Wide
 
 // The sum modulo m. Where it does not fit a word, the high word is made to count in the low one.
 fn reduced(w: Wide, m: Divisor) -> u32
-    requires { Ready m × (w.high < 2 ^ 31) }
+    requires { w.high < 2 ^ 31 }
     ensures { result ≡ (w.high * 2 ^ 64 + w.low) % m.number }
 {
     if w.high == 0 {
-        return reciprocal::remainder(w.low, m);
+        return m.remainder(w.low);
     }
-    reciprocal::remainder(
-        w.high * reciprocal::carry(m) + reciprocal::near(w.low, m),
-        m,
-    )
+    m.remainder(w.high * m.carry() + m.near(w.low))
 }
 
 // a * x + b * y modulo m, reduced once.
 pub fn two_products(a: u32, x: u32, b: u32, y: u32, m: Divisor) -> u32
-    requires { Ready m }
     ensures { result ≡ (a * x + b * y) % m.number }
 {
-    if m.number == reciprocal::MACHINE_WORDS {
-        return residue::add_words(residue::multiply_words(a, x), residue::multiply_words(b, y));
+    if m.number == MACHINE_WORDS {
+        return residue::add_words(a.wrapping_mul(x), b.wrapping_mul(y));
     }
     let w = Wide {
         high: 0,
@@ -77,17 +72,17 @@ fn inner_words(a: &[u32], b: &[u32], k: usize, lo: usize, hi: usize) -> u32
     let last = hi - 1;
     let mut w = 0;
     for i in lo..last {
-        w = residue::add_words(w, residue::multiply_words(a[i], b[k - i]));
+        w = residue::add_words(w, a[i].wrapping_mul(b[k - i]));
     }
-    residue::add_words(w, residue::multiply_words(a[last], b[k - last]))
+    residue::add_words(w, a[last].wrapping_mul(b[k - last]))
 }
 
 // The sum of a[i] * b[k - i] for i from lo to hi - 1, modulo m. Nothing is divided inside the loop: but for 2^32 the sum is exact.
 pub fn inner_product(a: &[u32], b: &[u32], k: usize, lo: usize, hi: usize, m: Divisor) -> u32
-    requires { Ready m × Within (length a.now) (length b.now) k lo hi }
+    requires { Within (length a.now) (length b.now) k lo hi }
     ensures { result ≡ inner a.now b.now k lo (hi - lo) % m.number }
 {
-    if m.number == reciprocal::MACHINE_WORDS {
+    if m.number == MACHINE_WORDS {
         return inner_words(a, b, k, lo, hi);
     }
     let mut w = Wide { high: 0, low: 0 };
@@ -105,7 +100,7 @@ fn strided_words(a: &[u32], b: &[u32], lo: usize, hi: usize, at: usize, step: us
     let mut w = 0;
     let mut j = at;
     for i in lo..hi {
-        w = residue::add_words(w, residue::multiply_words(a[i], b[j]));
+        w = residue::add_words(w, a[i].wrapping_mul(b[j]));
         j += step;
     }
     w
@@ -121,10 +116,10 @@ pub fn strided_product(
     step: usize,
     m: Divisor,
 ) -> u32
-    requires { Ready m × Strides (length a.now) (length b.now) lo hi at step }
+    requires { Strides (length a.now) (length b.now) lo hi at step }
     ensures { result ≡ strided a.now b.now lo at step (hi - lo) % m.number }
 {
-    if m.number == reciprocal::MACHINE_WORDS {
+    if m.number == MACHINE_WORDS {
         return strided_words(a, b, lo, hi, at, step);
     }
     let mut w = Wide { high: 0, low: 0 };

@@ -3,7 +3,6 @@
 
 ghost use Rattle.std.specs.Prelude.{◌≡◌, length};
 ghost use Rattle.algebra.specs.Polynomial.{scaled, terms, reduced, Held};
-ghost use Rattle.reciprocal.specs.Ready.{Ready};
 ghost use Rattle.moving.specs.Moving.{Lined, moved as moved_of, Inverts, PolynomialChanged, RightChanged, PairChanged};
 
 use polynomial::{Coefficients, Parts, TERMS};
@@ -22,7 +21,7 @@ fn line(a: u32, b: u32) -> Coefficients
 
 // f(a·x + b), for f of degree n.
 fn moved(f: &[u32], n: usize, a: u32, b: u32, m: Divisor) -> Coefficients
-    requires { Ready m × Held m.number n f.now }
+    requires { Held m.number n f.now }
     ensures { result ≡ moved_of m.number f.now a b }
 {
     let l = line(a, b);
@@ -31,7 +30,7 @@ fn moved(f: &[u32], n: usize, a: u32, b: u32, m: Divisor) -> Coefficients
 
 // Each coefficient times c.
 fn multiple(p: &[u32], c: u32, m: Divisor) -> Coefficients
-    requires { Ready m × (length p.now ≡ terms) }
+    requires { (length p.now ≡ terms) }
     ensures { result ≡ reduced m.number (scaled c p.now) }
 {
     let mut q = [0; TERMS];

@@ -1,1 +1,2 @@
+pub mod Reciprocal
 pub mod Ready

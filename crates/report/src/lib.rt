@@ -4,7 +4,6 @@
 
 ghost use Rattle.std.specs.Prelude.{◌≡◌, ◌+◌, ◌*◌, ◌≤◌, ◌<◌, length};
 ghost use Rattle.algebra.specs.Polynomial.{limit};
-ghost use Rattle.reciprocal.specs.Ready.{Ready};
 ghost use Rattle.division.specs.Division.{DivisionAsked, Raised};
 ghost use Rattle.left.specs.Left.{LeftAsked};
 ghost use Rattle.report.specs.Report.{Expanded, HighestAt, LeftReport};

@@ -10,7 +10,6 @@
 
 ghost use Rattle.std.specs.Prelude.{◌≡◌, min, ◌+◌, ◌*◌, ◌%◌, ◌≤◌, ◌<◌, length};
 ghost use Rattle.algebra.specs.Polynomial.{limit, Reduced};
-ghost use Rattle.reciprocal.specs.Ready.{Ready};
 ghost use Rattle.polynomial.specs.Degrees.{Degrees};
 ghost use Rattle.binomial.specs.Triangle.{rows, HasRow};
 ghost use Rattle.right.specs.Right.{RightAsked, Root};
@@ -25,7 +24,7 @@ pub const WORDS: usize = 2 * TERMS;
 
 // Row r of the binomials as far as the place top, divided by -r modulo m, with the inverse u of r in place 1.
 fn binomials(row: &[u64], r: usize, top: usize, u: u32, m: Divisor) -> [u32; ROWS]
-    requires { Ready m × (2 ≤ top) × (top < rows) × (u * r % m.number ≡ 1 % m.number) × HasRow r top row.now }
+    requires { (2 ≤ top) × (top < rows) × (u * r % m.number ≡ 1 % m.number) × HasRow r top row.now }
     ensures { Scaled m.number r u top result }
 {
     let mut b = [0; ROWS];
@@ -39,7 +38,7 @@ fn binomials(row: &[u64], r: usize, top: usize, u: u32, m: Divisor) -> [u32; ROW
 
 // Column k of the rows 1 to n: each entry is one inner product of what stands before it.
 fn column(t: &mut [u32], w: usize, k: usize, n: usize, m: Divisor)
-    requires { Ready m × ColumnRoom w k n t.old }
+    requires { ColumnRoom w k n t.old }
     ensures { Column m.number w k n t.old t.new }
 {
     let mut at = k;
@@ -52,7 +51,7 @@ fn column(t: &mut [u32], w: usize, k: usize, n: usize, m: Divisor)
 
 // Column k, whole: the rows after the first, then the place of row 0 that 01's equation asks, f's coefficient among its terms.
 fn next(t: &mut [u32], f: &[u32], b: &[u32], n: usize, r: usize, s: usize, k: usize, m: Divisor)
-    requires ready { Ready m × Degrees n r s × Reduced m.number f.now × (length b.now ≡ rows) }
+    requires ready { Degrees n r s × Reduced m.number f.now × (length b.now ≡ rows) }
     requires rows { Rows m.number f.now n r (s + 2) b.now k t.old × (0 < k) × (k < s + 2) }
     ensures { Rows m.number f.now n r (s + 2) b.now (k + 1) t.new }
 {

@@ -6,40 +6,28 @@ use Rattle.composition.proofs.compose.Goals as goal
 
 pub loop-i-init : goal.loop-i-init
 unfolding terms limit
-loop-i-init c = (omega arith, partly_none (omega arith) _ c.requires.1.left (omega arith))
+loop-i-init c = partly_none (omega arith) _ c.requires.left (omega arith)
 
 pub slice_bounds-step-end : goal.slice_bounds-step-end
 unfolding terms limit
-slice_bounds-step-end c = sym c.loop-i.invariant.1.reduced.long
+slice_bounds-step-end c = sym c.loop-i.invariant.reduced.long
 
 pub step-requires : goal.step-requires
 step-requires c =
     let a = c.requires in
-    (a.0, partly_room a.1.right a.1.within (omega arith) c.loop-i.invariant.1)
+    partly_room a.right a.within (omega arith) c.loop-i.invariant
 
 pub overflow_add-d : goal.overflow_add-d
 unfolding limit
 overflow_add-d c =
     let a = c.requires in
-    omega (arith, (partly_room a.1.right a.1.within (omega arith) c.loop-i.invariant.1).within)
+    omega (arith, (partly_room a.right a.within (omega arith) c.loop-i.invariant).within)
 
 pub loop-i-preserved : goal.loop-i-preserved
 unfolding terms limit
 loop-i-preserved c =
     let a = c.requires in
-    (omega arith, partly_next (omega arith) (partly_room a.1.right a.1.within (omega arith) c.loop-i.invariant.1) (omega arith) (omega arith) c.step.ensures c.loop-i.invariant.1)
+    partly_next (omega arith) (partly_room a.right a.within (omega arith) c.loop-i.invariant) (omega arith) (omega arith) c.step.ensures c.loop-i.invariant
 
 pub returns : goal.returns
-returns c = partly_all (omega arith) (omega arith) c.loop-i.invariant.1
-
-pub overflow_add-i : goal.overflow_add-i
-unfolding terms limit
-overflow_add-i c = omega arith
-
-pub offset_bounds-g-i : goal.offset_bounds-g-i
-unfolding terms limit
-offset_bounds-g-i c = omega arith
-
-pub bounds-g-i : goal.bounds-g-i
-unfolding terms limit
-bounds-g-i c = omega arith
+returns c = partly_all (omega arith) (omega arith) c.loop-i.invariant

@@ -22,7 +22,7 @@ loop-i-preserved c = (
 )
 
 pub reduced-requires : goal.reduced-requires
-reduced-requires c = (c.requires.0, widened_room (omega arith) c.loop-i.invariant.2)
+reduced-requires c = widened_room (omega arith) c.loop-i.invariant.2
 
 pub returns : goal.returns
 returns c =

@@ -18,7 +18,7 @@ loop-i-preserved c = (
   omega arith,
   omega arith,
   omega arith,
-  one_more _ _ _ c.loop-i.invariant.3 c.multiply_words.ensures c.add_words-w.ensures (inner_next _ _ _ _ _ (omega arith) refl),
+  one_more _ _ _ c.loop-i.invariant.3 refl c.add_words-w.ensures (inner_next _ _ _ _ _ (omega arith) refl),
 )
 
 -- the last term
@@ -28,4 +28,4 @@ returns c =
     let a = c.args in
     let e : l.i ≡ a.hi - 1 = omega arith in
     let f : a.hi - 1 + 1 ≡ a.hi = omega arith in
-    rw f at (one_more _ _ _ (rw e at l.invariant.3) c.multiply_words-2.ensures c.add_words.ensures (inner_next a.a.now a.b.now a.k a.lo (a.hi - 1) (omega arith) refl))
+    rw f at (one_more _ _ _ (rw e at l.invariant.3) refl c.add_words.ensures (inner_next a.a.now a.b.now a.k a.lo (a.hi - 1) (omega arith) refl))

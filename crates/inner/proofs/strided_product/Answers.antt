@@ -18,7 +18,7 @@ loop-i-init c = (
 )
 
 pub bounds-b-j : goal.bounds-b-j
-bounds-b-j c = stride-inside _ c.requires.1 (omega arith) c.loop-i.invariant.2
+bounds-b-j c = stride-inside _ c.requires (omega arith) c.loop-i.invariant.2
 
 pub added-w-requires : goal.added-w-requires
 added-w-requires c = widened_room (omega arith) c.loop-i.invariant.4
@@ -30,12 +30,12 @@ loop-i-preserved c =
       omega arith,
       omega arith,
       stride_next _ _ _ l.invariant.2 (omega arith),
-      omega (arith, stride-inside (l.i - a.lo) c.requires.1 (omega arith) l.invariant.2),
+      omega (arith, stride-inside (l.i - a.lo) c.requires (omega arith) l.invariant.2),
       widened_more _ (omega arith) (strided_next _ _ _ _ _ _ _ (omega arith) l.invariant.2 c.whole.ensures) c.added-w.ensures l.invariant.4,
     )
 
 pub reduced-requires : goal.reduced-requires
-reduced-requires c = (c.requires.0, widened_room (omega arith) c.loop-i.invariant.4)
+reduced-requires c = widened_room (omega arith) c.loop-i.invariant.4
 
 pub returns : goal.returns
 returns c =

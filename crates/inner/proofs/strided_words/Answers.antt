@@ -25,7 +25,7 @@ loop-i-preserved c =
       omega arith,
       stride_next _ _ _ l.invariant.2 (omega arith),
       omega (arith, stride-inside (l.i - a.lo) c.requires (omega arith) l.invariant.2),
-      one_more _ _ _ l.invariant.4 c.multiply_words.ensures c.add_words-w.ensures (strided_next _ _ _ _ _ _ _ (omega arith) l.invariant.2 refl),
+      one_more _ _ _ l.invariant.4 refl c.add_words-w.ensures (strided_next _ _ _ _ _ _ _ (omega arith) l.invariant.2 refl),
     )
 
 pub returns : goal.returns

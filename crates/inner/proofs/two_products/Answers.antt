@@ -7,13 +7,10 @@ use Rattle.inner.proofs.Words.{widened_one, widened_more, widened_room, widened_
 use Rattle.inner.proofs.two_products.Goals as goal
 
 pub returns-then-m-eq-MACHINE_WORDS : goal.returns-then-m-eq-MACHINE_WORDS
-returns-then-m-eq-MACHINE_WORDS c = rw c.if-m-eq-MACHINE_WORDS.true (one_more _ _ _ c.multiply_words.ensures c.multiply_words-then-m-eq-MACHINE_WORDS.ensures c.add_words.ensures refl)
+returns-then-m-eq-MACHINE_WORDS c = rw c.if-m-eq-MACHINE_WORDS.true (one_more _ _ _ refl refl c.add_words.ensures refl)
 
 pub reduced-requires : goal.reduced-requires
-reduced-requires c = (
-  search rules,
-  widened_room (lit< tt) (widened_more _ {n = 0} refl refl c.added.ensures (widened_one c.whole.ensures)),
-)
+reduced-requires c = widened_room (lit< tt) (widened_more _ {n = 0} refl refl c.added.ensures (widened_one c.whole.ensures))
 
 pub returns : goal.returns
 returns c =

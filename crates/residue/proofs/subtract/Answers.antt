@@ -1,9 +1,9 @@
-use Rattle.std.proofs.Common.{arith}
+use Rattle.std.proofs.Common.{refl, arith}
 use Rattle.algebra.proofs.Congruent.{from_eq, wrapped, remainder}
 use Rattle.residue.proofs.subtract.Goals as goal
 
 pub returns-then-m-eq-MACHINE_WORDS : goal.returns-then-m-eq-MACHINE_WORDS
-returns-then-m-eq-MACHINE_WORDS c = rw c.if-m-eq-MACHINE_WORDS.true c.subtract_words.ensures
+returns-then-m-eq-MACHINE_WORDS c = rw c.if-m-eq-MACHINE_WORDS.true refl
 
 pub returns-then-b-a : goal.returns-then-b-a
 returns-then-b-a c = remainder (omega arith) (wrapped (omega arith))
