@@ -21,26 +21,14 @@ pub fn start(i: usize) -> usize
     i * TERMS
 }
 
-// Copies the words of p over a place that is lent.
-fn copy(place: &mut [u32], p: &[u32])
-    requires { length place.old ≡ length p.now }
-    ensures { place.new ≡ p.now }
-{
-    let mut k = 0;
-    while k < p.len() {
-        place[k] = p[k];
-        k += 1;
-    }
-}
-
-// Writes place i, lending its words in the middle of the area, and no other word.
+// Writes place i, and no other word.
 pub fn put(area: &mut [u32], i: usize, p: &[u32])
     requires { (i < most_parts) × (area_words ≤ length area.old) × (length p.now ≡ terms) }
     ensures { area.new ≡ put_at area.old i p.now }
 {
     let from = start(i);
     let end = from + TERMS;
-    copy(&mut area[from..end], p);
+    area[from..end].copy_from_slice(p);
 }
 
 // Zeroes every place.
@@ -48,25 +36,14 @@ pub fn clear(area: &mut [u32])
     requires { area_words ≤ length area.old }
     ensures { area.new ≡ cleared area.old }
 {
-    let mut k = 0;
-    while k < WORDS {
-        area[k] = 0;
-        k += 1;
-    }
+    area[..WORDS].fill(0);
 }
 
 // Whether every word is zero.
 pub fn is_zero(p: &[u32]) -> bool
     ensures { result ≡ all_zero p.now }
 {
-    let mut k = 0;
-    while k < p.len() {
-        if p[k] != 0 {
-            return false;
-        }
-        k += 1;
-    }
-    true
+    p.iter().all(|x| *x == 0)
 }
 
 // The operation: part i of the caller's own area, or an empty part.

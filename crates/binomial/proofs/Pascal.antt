@@ -5,6 +5,7 @@
 --   stepped_none, stepped_more, stepped_all      no place, one more, all
 --   sum_fits                                     the sum of two neighbours fits a word
 --   table-end, table-row                         row r in the table: it lies there, and it is that row
+--   row_to                                       a whole row, as far as a place
 use mathlib.Core.Path.{◌≡◌, refl, sym, ◌∙◌, ap}
 use mathlib.Core.Logic.{⊎_elim}
 use mathlib.Core.List.{List}
@@ -99,3 +100,7 @@ module _ {r a : ℕ} (l : r < rows) (e : a ≡ r * (r + 1) / 2) where
 
       long : top < length (take (b - a) (drop a t))
       long = rw (length-take-le (b - a) (drop a t) inside) (omega arith)
+
+-- a whole row, as far as place top
+pub row_to : {r top : ℕ} {b : List ℕ} → top ≤ r → HasRow r r b → HasRow r top b
+row_to h w = record { long = omega (arith, w.long); is = λ i l. w.is i (omega arith) }

@@ -1,6 +1,6 @@
 // The binomials C(j, i), rows 0 to ROWS - 1, not reduced: row j begins at j * (j + 1) / 2.
 //
-// A constant array is written out anew wherever it is named, so who wants many rows fetches the table once and lends it down, and who
+// A constant array is written out anew wherever it is named, so who wants many rows makes the table once and lends it down, and who
 // wants one row works that out by Pascal's rule.
 #![tactic(auto)]
 
@@ -10,7 +10,7 @@ ghost use Rattle.binomial.specs.Triangle.{rows, triangle, HasRow};
 // No left degree reaches it.
 pub const ROWS: usize = 64;
 
-pub const ENTRIES: usize = ROWS * (ROWS + 1) / 2;
+const ENTRIES: usize = ROWS * (ROWS + 1) / 2;
 
 const BINOMIALS: [u64; ENTRIES] = [
     1,
@@ -2095,19 +2095,35 @@ const BINOMIALS: [u64; ENTRIES] = [
     1,
 ];
 
-// The whole table.
-pub fn table() -> [u64; ENTRIES]
-    ensures { result ≡ triangle rows }
-{
-    BINOMIALS
-}
-
 // Where row j begins in the table.
-pub fn start(j: usize) -> usize
+fn start(j: usize) -> usize
     requires { j < rows }
     ensures { result ≡ j * (j + 1) / 2 }
 {
     j * (j + 1) / 2
+}
+
+// The whole table.
+#[derive(Drop)]
+pub struct Table {
+    entries: [u64; ENTRIES],
+    pub ghost exact: { entries ≡ triangle rows },
+}
+
+impl Table {
+    pub fn new() -> Table {
+        Table { entries: BINOMIALS }
+    }
+
+    // Row j.
+    pub fn row(&self, j: usize) -> &[u64]
+        requires { j < rows }
+        ensures { HasRow j j result.now }
+    {
+        let at = start(j);
+        let end = at + j + 1;
+        &self.entries[at..end]
+    }
 }
 
 // Row j becomes row j + 1, as far as place top: from the right, each number gets its left neighbour added.
@@ -2115,10 +2131,8 @@ fn next(b: &mut [u64], j: usize, top: usize)
     requires { HasRow j top b.old × (j + 1 < rows) × (top < rows) }
     ensures { HasRow (j + 1) top b.new }
 {
-    let mut i = top;
-    while 0 < i {
-        b[i] = b[i] + b[i - 1];
-        i -= 1;
+    for i in (1..top + 1).rev() {
+        b[i] += b[i - 1];
     }
 }
 

@@ -2,26 +2,24 @@
 --
 --   Counting s at k n              digits from `at` to k, and n is their number
 --   first-digit, next_digit        the first digit, one more
---   counted, too_long, no_digit    what is found at the end
+--   too_long                       an eleventh digit
 --   counting_small                 nine digits leave room for one more
---   power-good, power_over, power-none     a power: within its limit; above it; no number
-use mathlib.Core.Path.{◌≡◌, refl, sym, ap, ◌∙◌}
-use mathlib.Core.Bool.{true, false, true≢false, false≢true}
+--   power_over, power-none         a power above its limit; no number
+use mathlib.Core.Path.{◌≡◌, refl, ap, ◌∙◌}
 use mathlib.Core.Logic.{inl, inr}
 use mathlib.Core.List.{List, [], ◌∷◌, ◌++◌, append_assoc}
 use Prim.Native.Nat.{ℕ, zero, suc, ◌+◌, ◌*◌, ◌-◌, ◌≤◌, ◌<◌}
 use native.Mathlib.Nat.{le_refl, le_trans, add-zero, add-suc}
 use native.Mathlib.Numerals.{add-one}
 use native.Mathlib.Omega.{arith}
-use native.Mathlib.Decide.{dec_lt}
 use lib.ListN.{length, drop, get_or, length-append}
 use lib.Seq.{drop-cons}
 use Rattle.algebra.specs.Polynomial.{limit}
-use Rattle.numeral.specs.declared.Numeral.{Numeral}
+use Rattle.std.specs.Prelude.{None}
 use Rattle.digits.proofs.Text.{tens}
 use Rattle.text.specs.Grammar.{Base, digits_value, digits_value_from, AllDigits, most_deep}
 use Rattle.text.specs.States.{Frame, spelling, caret, stuck, is_digit, step, run, bad, verdict}
-use Rattle.numeral.specs.Counting.{Uncounted, ended, other, long, Counts, CountsPower}
+use Rattle.numeral.specs.Counting.{Counted, Uncounted, ended, other, long, CountsPower}
 use Rattle.text.proofs.Spelling.{run-append, run-stuck, value_last}
 use Rattle.text.proofs.Running.{run_out, run-fault, raised-bad}
 use Rattle.text.proofs.Reached.{all_more, by_cond, digit_bounds}
@@ -82,65 +80,27 @@ module _ {s : List ℕ} {at k n : ℕ} (c : Counting s at k n) where
         inside = omega arith;
       }
 
-  pub too_long : {r : Numeral} → r.good ≡ false → k < length s → 48 ≤ get_or s k 0 → get_or s k 0 ≤ 57 → 10 ≤ k - at → Counts s at r
-  too_long g l a b f =
-      record {
-        fine = λ z. absurd (false≢true (sym g ∙ z));
-        fails = λ z. long (c.bytes ++ (get_or s k 0 ∷ [])) (drop (k + 1) s) (all_more c.bytes (get_or s k 0) c.all a b)
-            (omega (arith, length-append c.bytes (get_or s k 0 ∷ []), c.count)) (text-more l);
-      }
-
-  pub counted : (k < length s → 48 ≤ get_or s k 0 → get_or s k 0 ≤ 57 → ⊥) → Counts s at (record { good = true; next = k; value = n })
-  counted e =
-      record {
-        fine = λ z. record {
-          bytes = c.bytes;
-          digits = record { digits = c.all; some = omega (arith, c.count, c.ahead); few = c.few };
-          is = c.is;
-          text = c.text;
-          ahead = c.ahead;
-          inside = c.inside;
-          ends = e;
-        };
-        fails = λ z. absurd (true≢false z);
-      }
-
-pub no_digit : (s : List ℕ) (at : ℕ) {r : Numeral} → r.good ≡ false → (at < length s → 48 ≤ get_or s at 0 → get_or s at 0 ≤ 57 → ⊥) → Counts s at r
-no_digit s at g e = record { fine = λ z. absurd (false≢true (sym g ∙ z)); fails = λ z. other_or_ended }
-  where
-    go : Dec (at < length s) → Uncounted s at
-    go (yes l) = other l (e l)
-    go (no l) = ended (omega arith)
-
-    other_or_ended : Uncounted s at
-    other_or_ended = go (dec_lt at (length s))
+  pub too_long : k < length s → 48 ≤ get_or s k 0 → get_or s k 0 ≤ 57 → 10 ≤ k - at → Uncounted s at
+  too_long l a b f =
+      long (c.bytes ++ (get_or s k 0 ∷ [])) (drop (k + 1) s) (all_more c.bytes (get_or s k 0) c.all a b)
+      (omega (arith, length-append c.bytes (get_or s k 0 ∷ []), c.count)) (text-more l)
 
 -- ---- the digits of a power
 
 module _ (s : List ℕ) (at : ℕ) where
-  pub power-good : {n : Numeral} → n.good ≡ true → n.value ≤ limit → Counts s at n → CountsPower s at n
-  power-good g l c = record { fine = λ z. c.fine z; low = λ z. l; fails = λ z. absurd (true≢false (sym g ∙ z)) }
-
   power-run : (st : List Frame) (f : Frame) (a : Base) (c rest : List ℕ) → drop at s ≡ c ++ rest → run most_deep (caret st f a) c ≡ stuck spelling → verdict (run most_deep (caret st f a) (drop at s)) ≡ bad spelling
   power-run st f a c rest t h = ap verdict (ap (run most_deep (caret st f a)) t ∙ run-append most_deep (caret st f a) c rest ∙ ap (λ q. run most_deep q rest) h ∙ run-stuck most_deep spelling rest)
 
-  pub power_over : {n r : Numeral} → n.good ≡ true → limit < n.value → r.good ≡ false → Counts s at n → CountsPower s at r
-  power_over {n} g l e c =
-      let d = c.fine g in
-      record {
-        fine = λ z. absurd (false≢true (sym e ∙ z));
-        low = λ z. absurd (false≢true (sym e ∙ z));
-        fails = λ z st f a. power-run st f a d.bytes (drop n.next s) d.text (raised-bad st f a d.bytes d.digits.digits d.digits.some (inr (rw d.is at l)));
-      }
+  -- above the limit
+  pub power_over : {next n : ℕ} → limit < n → Counted s at next n → CountsPower s at None
+  power_over {next} l d st f a = power-run st f a d.bytes (drop next s) d.text (raised-bad st f a d.bytes d.digits.digits d.digits.some (inr (rw d.is at l)))
 
   caret-other : (st : List Frame) (f : Frame) (a : Base) → (48 ≤ get_or s at 0 → get_or s at 0 ≤ 57 → ⊥) → step most_deep (caret st f a) (get_or s at 0) ≡ stuck spelling
   unfolding step
   caret-other st f a h = by_cond (λ q. q ≡ stuck spelling) (is_digit (get_or s at 0)) (λ e. absurd (h (digit_bounds (get_or s at 0) e).0 (digit_bounds (get_or s at 0) e).1)) (λ e. refl)
 
-  uncounted : Uncounted s at → (st : List Frame) (f : Frame) (a : Base) → verdict (run most_deep (caret st f a) (drop at s)) ≡ bad spelling
-  uncounted (ended l) st f a = ap verdict (run_out (caret st f a) s at l)
-  uncounted (other l h) st f a = run-fault (caret st f a) s at spelling l (caret-other st f a h)
-  uncounted (long c rest d l t) st f a = power-run st f a c rest t (raised-bad st f a c d (omega arith) (inl l))
-
-  pub power-none : {n : Numeral} → n.good ≡ false → Counts s at n → CountsPower s at n
-  power-none g c = record { fine = λ z. c.fine z; low = λ z. absurd (false≢true (sym g ∙ z)); fails = λ z. uncounted (c.fails z) }
+  -- no number
+  pub power-none : Uncounted s at → CountsPower s at None
+  power-none (ended l) st f a = ap verdict (run_out (caret st f a) s at l)
+  power-none (other l h) st f a = run-fault (caret st f a) s at spelling l (caret-other st f a h)
+  power-none (long c rest d l t) st f a = power-run st f a c rest t (raised-bad st f a c d (omega arith) (inl l))

@@ -1,13 +1,19 @@
 -- What the readers of digits ensure. Only leaves need this.
 --
+--   DigitAt s k r            the digit at k, or none stands there
 --   Counted s at next n      a number n of 1 to 10 digits stands from place `at` to next
 --   Uncounted s at           no number stands there
---   Counts s at r            one or the other, which r tells
+--   Counts s at r            one or the other, by what is found
 --   CountsPower s at r       the same for a power, which keeps its limit
-use Rattle.std.specs.Prelude.{◌≡◌, true, false, List, ◌++◌, ℕ, ◌≤◌, ◌<◌, length, drop, get_or}
+use Rattle.std.specs.Prelude.{◌≡◌, Option, Some, None, List, ◌++◌, ℕ, ◌-◌, ◌≤◌, ◌<◌, length, drop, get_or}
 use Rattle.text.specs.Grammar.{Base, digits_value, AllDigits, Decimal, number_digits, most_deep, most_power, zero_byte, nine_byte}
 use Rattle.text.specs.States.{Frame, spelling, caret, run, bad, verdict}
 use Rattle.numeral.specs.declared.Numeral.{Numeral}
+
+-- the digit at k, or none stands there
+abbrev pub DigitAt : List ℕ → ℕ → Option ℕ → Type 0
+DigitAt s k None = k < length s → zero_byte ≤ get_or s k 0 → get_or s k 0 ≤ nine_byte → ⊥
+DigitAt s k (Some d) = (k < length s) × (zero_byte ≤ get_or s k 0) × (get_or s k 0 ≤ nine_byte) × (d ≡ get_or s k 0 - zero_byte)
 
 -- 1 to 10 digits from `at` to next, where no digit stands
 pub record Counted (s : List ℕ) (at next n : ℕ) : Type 0 where
@@ -25,12 +31,12 @@ pub data Uncounted (s : List ℕ) (at : ℕ) : Type 0 where
   other : at < length s → (zero_byte ≤ get_or s at 0 → get_or s at 0 ≤ nine_byte → ⊥) → Uncounted s at
   long : (bytes rest : List ℕ) → AllDigits bytes → number_digits < length bytes → drop at s ≡ bytes ++ rest → Uncounted s at
 
-pub record Counts (s : List ℕ) (at : ℕ) (r : Numeral) : Type 0 where
-  pub fine : r.good ≡ true → Counted s at r.next r.value
-  pub fails : r.good ≡ false → Uncounted s at
+-- by what is found
+abbrev pub Counts : List ℕ → ℕ → Option Numeral → Type 0
+Counts s at None = Uncounted s at
+Counts s at (Some n) = Counted s at n.next n.value
 
 -- the same for the digits of a power, after ^
-pub record CountsPower (s : List ℕ) (at : ℕ) (r : Numeral) : Type 0 where
-  pub fine : r.good ≡ true → Counted s at r.next r.value
-  pub low : r.good ≡ true → r.value ≤ most_power
-  pub fails : r.good ≡ false → (st : List Frame) (f : Frame) (a : Base) → verdict (run most_deep (caret st f a) (drop at s)) ≡ bad spelling
+abbrev pub CountsPower : List ℕ → ℕ → Option Numeral → Type 0
+CountsPower s at None = (st : List Frame) (f : Frame) (a : Base) → verdict (run most_deep (caret st f a) (drop at s)) ≡ bad spelling
+CountsPower s at (Some n) = Counted s at n.next n.value × (n.value ≤ most_power)

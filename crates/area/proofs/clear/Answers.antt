@@ -1,31 +1,21 @@
-use Rattle.algebra.specs.Polynomial.{limit, terms}
-use mathlib.Core.Path.{◌≡◌, ap, ◌∙◌}
-use mathlib.Core.List.{◌++◌}
-use Prim.Native.Nat.{ℕ}
+use mathlib.Core.Path.{refl}
 use native.Mathlib.Omega.{arith}
-use Rattle.area.specs.Area.{most_parts, area_words, cleared}
 use borrow.Author.Rules.{rules}
-use borrow.Author.Fill.{fill_more}
-use lib.ListN.{replicate, drop, length-set}
+use lib.ListN.{length}
+use lib.Seq.{length-take-le}
+use Prim.Native.Nat.{◌≤◌}
+use Rattle.algebra.specs.Polynomial.{limit, terms}
+use Rattle.area.specs.Area.{most_parts, area_words, cleared}
 use Rattle.area.proofs.clear.Goals as goal
 
-pub loop-k-preserved : goal.loop-k-preserved
+pub slice_bounds-fill-end : goal.slice_bounds-fill-end
 unfolding area_words most_parts terms limit
-loop-k-preserved c =
-    let l = c.loop-k in
-    (search rules, simp length-set l.invariant.1, rw l.invariant.2 (fill_more l.k 0 c.args.area.now (omega arith)))
+slice_bounds-fill-end c = omega arith
+
+pub slice_bounds-fill-end-2 : goal.slice_bounds-fill-end-2
+unfolding area_words most_parts terms limit
+slice_bounds-fill-end-2 c = search rules
 
 pub returns : goal.returns
 unfolding cleared area_words most_parts terms limit
-returns c =
-    let l = c.loop-k in
-    let e : l.k ≡ area_words = omega arith in
-    l.invariant.2 ∙ ap (λ (n : ℕ). replicate n 0 ++ drop n c.args.area.now) e
-
-pub bounds-area-k : goal.bounds-area-k
-unfolding area_words most_parts terms limit
-bounds-area-k c = search rules
-
-pub loop-k-smaller : goal.loop-k-smaller
-unfolding area_words most_parts terms limit
-loop-k-smaller c = search rules
+returns c = let h : 762 ≤ length c.args.area.now = c.requires in rw (c.fill.ensures.after (λ y e. e), length-take-le 762 c.args.area.now h) refl

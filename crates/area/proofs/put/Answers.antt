@@ -11,7 +11,7 @@ unfolding put_at area_words most_parts terms limit
 returns c =
     let s = c.start-from in
     let e : s.result + terms - s.result ≡ terms = omega arith in
-    rw (e, s.ensures, c.copy.ensures)
+    rw (e, s.ensures, c.copy_from_slice.ensures.after)
 
 pub overflow_add-end : goal.overflow_add-end
 unfolding area_words most_parts terms limit
@@ -21,10 +21,10 @@ pub offset_bounds-area-from : goal.offset_bounds-area-from
 unfolding area_words most_parts terms limit
 offset_bounds-area-from c = search rules
 
-pub slice_bounds-copy-end : goal.slice_bounds-copy-end
+pub slice_bounds-copy_from_slice-end : goal.slice_bounds-copy_from_slice-end
 unfolding area_words most_parts terms limit
-slice_bounds-copy-end c = search rules
+slice_bounds-copy_from_slice-end c = search rules
 
-pub copy-requires : goal.copy-requires
+pub copy_from_slice-requires : goal.copy_from_slice-requires
 unfolding area_words most_parts terms limit
-copy-requires c = search rules
+copy_from_slice-requires c = search rules

@@ -1,16 +1,17 @@
-use mathlib.Core.Path.{refl}
-use borrow.Author.Tests.{not-true, not-false}
+use mathlib.Core.Path.{◌≡◌}
+use borrow.Author.Rules.{rules}
+use Rattle.std.specs.Prelude.{None}
 use Rattle.algebra.specs.Polynomial.{limit}
 use Rattle.numeral.proofs.Counting as law
 use Rattle.numeral.proofs.exponent.Goals as goal
 
-pub returns-then-not-n : goal.returns-then-not-n
-returns-then-not-n c = law.power-none _ _ (not-true _ c.if-not-n.true) c.number-n.ensures
+pub returns-in_err-n : goal.returns-in_err-n
+returns-in_err-n c = let e : c.from_residual.result ≡ None = search rules in rw e (law.power-none _ _ c.in_err-n.ensures)
 
 pub returns-then-n : goal.returns-then-n
 unfolding limit
-returns-then-n c = law.power_over _ _ (not-false _ c.if-not-n.false) c.if-n.true refl c.number-n.ensures
+returns-then-n c = law.power_over _ _ c.if-n.true c.in_ok-n.ensures
 
 pub returns : goal.returns
 unfolding limit
-returns c = law.power-good _ _ (not-false _ c.if-not-n.false) c.if-n.false c.number-n.ensures
+returns c = (c.in_ok-n.ensures, c.if-n.false)

@@ -1,8 +1,8 @@
 use mathlib.Core.Path.{refl}
 use Rattle.binomial.specs.Triangle.{rows, sums, row, triangle}
-use Rattle.binomial.proofs.table.Goals as goal
+use Rattle.binomial.proofs.Table.new.Goals as goal
 
 -- all entries at once, by computation
-pub returns : goal.returns
+pub invariant_of-result : goal.invariant_of-result
 unfolding rows triangle row sums
-returns c = refl
+invariant_of-result c = record { exact = refl }
