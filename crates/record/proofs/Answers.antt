@@ -23,43 +23,39 @@ use Rattle.algebra.specs.Polynomial.{terms, degree}
 use Rattle.refusal.specs.Refusal.{refusal, refuse, is_refused}
 use Rattle.refusal.specs.declared.Concerns.TheVariants.{Neither}
 use Rattle.refusal.specs.declared.Reason.TheVariants.{Short}
-use Rattle.refusal.specs.Refusal.{Outcome}
-use Rattle.refusal.specs.Refusal.{Answered, Refused}
+use Rattle.refusal.specs.Refusal.{Outcome, Answered, Refused}
+use Rattle.refusal.specs.declared.Refusal.{Refusal}
+use Rattle.std.specs.Prelude.{Ok, Err}
 use Rattle.refusal.proofs.Outcomes.{answered, then_both, passed_on}
 use Rattle.polynomial.specs.Moduli.{modulus}
 use Rattle.polynomial.specs.Checks.{check_one}
 use Rattle.algebra.proofs.Numbers.{table-length, table_ext}
-use Rattle.record.specs.Record.{word, record_bytes, coefficients, check_record, no_record, answer, checked}
-use Rattle.record.specs.declared.Checked.{Checked}
+use Rattle.record.specs.Record.{word, record_bytes, coefficients, check_record, no_record, answer, checked, Checked}
 
 module _ (b : List ℕ) where
   -- fewer bytes than a record has: No. 9 and nothing else is the answer
-  pub short-checked : {o : Outcome} → length b < record_bytes → o ≡ refusal Neither Short → no_record o ≡ checked b
+  pub short-checked : length b < record_bytes → no_record (refusal Neither Short) ≡ checked b
   unfolding checked check_record
-  short-checked h e = simp (lt-ltb _ _ h, e)
+  short-checked h = simp (lt-ltb _ _ h)
 
   enough : record_bytes ≤ length b → check_record b ≡ check_one (modulus (word b 0)) (coefficients b)
   unfolding check_record
   enough l = simp (le-ltb _ _ l)
-
-  refused-answer : (o : Outcome) → is_refused o ≡ true → no_record o ≡ answer o b
-  refused-answer Answered h = cc
-  refused-answer (Refused r) h = refl
 
   module _ {w m : ℕ} {f : List ℕ} {o : Outcome} (long : record_bytes ≤ length b) (w-is : w ≡ word b 0) (m-is : m ≡ modulus w) (f_is : f ≡ coefficients b) (o_is : o ≡ check_one m f) where
     outcome : check_record b ≡ o
     outcome = enough long ∙ (simp (← w-is, ← m-is, ← f_is)) ∙ sym o_is
 
     -- a whole record, and its checks refuse: their refusal and nothing else is the answer
-    pub refused-checked : is_refused o ≡ true → no_record o ≡ checked b
+    pub refused-checked : {r : Refusal} → o ≡ Refused r → no_record (Refused r) ≡ checked b
     unfolding checked
-    refused-checked h = rw outcome (refused-answer o h)
+    refused-checked h = rw (outcome, h) refl
 
     -- a whole record, and its checks pass: its words and the degree are the answer
-    pub answered-checked : {n : ℕ} → n ≡ degree f → is_refused o ≡ false
-        → ◌≡◌ {A = Checked} (record { outcome = o; modulus = w; polynomial = f; degree = n }) (checked b)
+    pub answered-checked : {n : ℕ} → n ≡ degree f → o ≡ Answered
+        → ◌≡◌ {A = Checked} (record { outcome = Answered; modulus = w; polynomial = f; degree = n }) (checked b)
     unfolding checked
-    answered-checked n-is h = simp (outcome, answered {a = o} h, n-is, ← w-is, ← f_is)
+    answered-checked n-is h = simp (outcome, h, n-is, ← w-is, ← f_is)
 
 pub coefficients-long : (b : List ℕ) → length (coefficients b) ≡ terms
 unfolding coefficients
@@ -67,8 +63,8 @@ coefficients-long b = table-length terms _
 
 answer-outcome : (o : Outcome) (b : List ℕ) → (answer o b).outcome ≡ o
 unfolding no_record
-answer-outcome Answered b = refl
-answer-outcome (Refused r) b = refl
+answer-outcome (Ok x) b = refl
+answer-outcome (Err r) b = refl
 
 module _ (b : List ℕ) {x : Checked} (is : x ≡ checked b) where
   -- its outcome is that of the checks
@@ -105,8 +101,8 @@ take-coefficients b = table_ext terms _ _ (λ k l. word-take record_bytes (k + 1
 
 -- an answer shows no more of the bytes than the words
 same_answer : (b b' : List ℕ) (o : Outcome) → word b 0 ≡ word b' 0 → coefficients b ≡ coefficients b' → answer o b ≡ answer o b'
-same_answer b b' Answered w f = simp (w, f)
-same_answer b b' (Refused r) w f = refl
+same_answer b b' (Ok x) w f = simp (w, f)
+same_answer b b' (Err r) w f = refl
 
 take-checked : (b : List ℕ) → checked (take record_bytes b) ≡ checked b
 unfolding checked record_bytes

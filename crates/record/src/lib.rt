@@ -2,21 +2,33 @@
 #![tactic(auto)]
 
 ghost use Rattle.std.specs.Prelude.{◌≡◌, ◌+◌, ◌*◌, ◌≤◌, ◌<◌, length};
-ghost use Rattle.record.specs.Record.{word as word_of, record_bytes, coefficients as coefficients_of, no_record as no_record_of, checked};
+ghost use Rattle.record.specs.Record.{word as word_of, record_bytes, coefficients as coefficients_of, zeros, checked, checked_of};
 
 use polynomial::{Coefficients, TERMS};
-use refusal::{Concerns, Outcome, Reason};
+use refusal::{Reason, Refusal};
 
 // A word for the modulus and one for each coefficient, 4 bytes each.
 pub const BYTES: usize = 4 * (TERMS + 1);
 
-// What a record holds, its modulus as the word that stands there; all zero after a refusal.
-#[derive(Drop)]
-pub struct Checked {
-    pub outcome: Outcome,
+// What a record holds, its modulus as the word that stands there.
+#[derive(Clone, Copy)]
+pub struct Record {
     pub modulus: u32,
     pub polynomial: Coefficients,
     pub degree: usize,
+}
+
+// Zeros, as they are handed out after a refusal.
+impl Default for Record {
+    ghost is_default = { λ x. x ≡ zeros };
+
+    fn default() -> Record {
+        Record {
+            modulus: 0,
+            polynomial: [0; TERMS],
+            degree: 0,
+        }
+    }
 }
 
 // A byte as a word; by its bound the sums in `word` fit.
@@ -48,36 +60,20 @@ pub fn coefficients(bytes: &[u8]) -> Coefficients
     f
 }
 
-// The answer of a refused check.
-fn no_record(outcome: Outcome) -> Checked
-    ensures { result ≡ no_record_of outcome }
-{
-    Checked {
-        outcome,
-        modulus: 0,
-        polynomial: [0; TERMS],
-        degree: 0,
-    }
-}
-
 // The record that the bytes begin with.
-pub fn check(bytes: &[u8]) -> Checked
-    ensures { result ≡ checked bytes.now }
+pub fn check(bytes: &[u8]) -> Result<Record, Refusal>
+    ensures { checked_of result ≡ checked bytes.now }
 {
     if bytes.len() < BYTES {
-        return no_record(refusal::refused(Concerns::Neither, Reason::Short));
+        return Err(Reason::Short.into());
     }
     let modulus = word(bytes, 0);
     let polynomial = coefficients(bytes);
     let degree = polynomial::degree(&polynomial);
-    let outcome = polynomial::check_one(polynomial::modulus(modulus), &polynomial, degree);
-    if refusal::refuses(outcome) {
-        return no_record(outcome);
-    }
-    Checked {
-        outcome,
+    polynomial::check_one(polynomial::modulus(modulus), &polynomial, degree)?;
+    Ok(Record {
         modulus,
         polynomial,
         degree,
-    }
+    })
 }
