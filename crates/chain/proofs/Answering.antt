@@ -20,7 +20,7 @@ use Rattle.polynomial.proofs.Acceptance.{accepted-one, accepted_as}
 use Rattle.binomial.specs.Triangle.{rows, triangle}
 use Rattle.area.specs.Area.{area_words, cleared, laid}
 use Rattle.area.proofs.Laying.{written_is}
-use Rattle.chain.specs.declared.Chained.{Chained}
+use Rattle.chain.specs.Chaining.{Chained}
 use Rattle.chain.specs.Chaining.{unchained, ChainGiven, ChainFound, ChainOf}
 use Rattle.chain.specs.Chaining as of
 use Rattle.chain.proofs.Placing.{chain-full}

@@ -21,7 +21,7 @@ use Rattle.refusal.proofs.Outcomes.{never}
 use Rattle.polynomial.specs.Checks.{check_one}
 use Rattle.polynomial.proofs.Acceptance.{accepted-one, accepted-above}
 use Rattle.area.specs.Area.{area_words, written}
-use Rattle.chain.specs.declared.Chained.{Chained}
+use Rattle.chain.specs.Chaining.{Chained}
 use Rattle.chain.specs.Chaining.{unchained, ChainOf}
 use Rattle.chain.specs.Chaining as of
 

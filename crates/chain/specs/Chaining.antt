@@ -19,7 +19,7 @@ use Rattle.refusal.specs.Refusal.{Answered, Refused}
 use Rattle.polynomial.specs.Checks.{check_one}
 use Rattle.binomial.specs.Triangle.{rows, triangle}
 use Rattle.area.specs.Area.{area_words, cleared, laid, written}
-use Rattle.chain.specs.declared.Chained.{Chained}
+use Rattle.chain.specs.Chaining.{Chained}
 
 -- whether n and m share a factor above 1
 pub record Shares (n m : ℕ) (b : Bool) : Type 0 where

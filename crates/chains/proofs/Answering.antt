@@ -19,8 +19,8 @@ use Rattle.polynomial.specs.Checks.{check_one}
 use Rattle.area.specs.Area.{area_words, cleared, laid}
 use Rattle.area.proofs.Laying.{written_is}
 use Rattle.chain.specs.Chaining.{Shares}
-use Rattle.chains.specs.declared.Numbered.{Numbered}
-use Rattle.chains.specs.declared.Chosen.{Chosen}
+use Rattle.chains.specs.Choosing.{Numbered}
+use Rattle.chains.specs.Choosing.{Chosen}
 use Rattle.chains.specs.Walking.{HasChains, NthIn, NoNth}
 use Rattle.chains.specs.Choosing.{unnumbered, unchosen, NumberOf, NthOf}
 use Rattle.chains.specs.Choosing as of

@@ -19,8 +19,8 @@ use Rattle.polynomial.specs.Checks.{check_one}
 use Rattle.polynomial.proofs.Acceptance.{accepted-one}
 use Rattle.area.specs.Area.{written}
 use Rattle.round.proofs.Asking.{accepted_chainable}
-use Rattle.chains.specs.declared.Numbered.{Numbered}
-use Rattle.chains.specs.declared.Chosen.{Chosen}
+use Rattle.chains.specs.Choosing.{Numbered}
+use Rattle.chains.specs.Choosing.{Chosen}
 use Rattle.chains.specs.Choosing.{unnumbered, unchosen, NumberOf, NthOf}
 use Rattle.chains.specs.Choosing as of
 

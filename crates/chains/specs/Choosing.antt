@@ -16,8 +16,8 @@ use Rattle.refusal.specs.Refusal.{Outcome}
 use Rattle.refusal.specs.Refusal.{Answered, Refused}
 use Rattle.polynomial.specs.Checks.{check_one}
 use Rattle.area.specs.Area.{area_words, cleared, written}
-use Rattle.chains.specs.declared.Numbered.{Numbered}
-use Rattle.chains.specs.declared.Chosen.{Chosen}
+use Rattle.chains.specs.Choosing.{Numbered}
+use Rattle.chains.specs.Choosing.{Chosen}
 
 -- zero beside an outcome
 abbrev pub unnumbered : Outcome → Numbered

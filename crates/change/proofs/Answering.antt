@@ -1,31 +1,26 @@
 -- What an operation goes by: the test of a change, and the change that undoes one.
 --
---   tests_no, tests_yes      the test of a change says no, or yes with an inverse
+--   proper_by, inverts_by    an inverse of the unit makes a change proper, and can be handed on
 --   undone-is                (1/a, -b/a) undoes (a, b)
 use mathlib.Core.Path.{◌≡◌, sym, ◌∙◌}
-use mathlib.Core.Bool.{true, false, true≢false, false≢true}
 use Prim.Native.Nat.{ℕ, ◌+◌, ◌*◌, ◌-◌, ◌%◌, ◌<◌}
 use native.Mathlib.Nat as N
 use native.Mathlib.Omega.{arith}
 use Rattle.algebra.specs.Number.{Modulus}
 use Rattle.inverse.specs.Inverse.{InverseIs}
-use Rattle.inverse.specs.declared.Inverse.TheVariants.{Of}
+use Rattle.std.specs.Prelude.{Ok}
 use Rattle.algebra.proofs.Congruent.{Congruent, from_eq, reduced, plus, times, turn, ◌then◌}
 use Rattle.inverse.proofs.Inverses.{inverse-coprime}
 use Rattle.moving.specs.Moving.{Inverts}
 use Rattle.change.specs.declared.Change.{Change}
-use Rattle.change.specs.Changing.{Proper, Tests, Undone}
+use Rattle.change.specs.Changing.{Proper, Undone}
 
--- the test says no
-pub tests_no : {m : ℕ} {c : Change} → (Proper m c → ⊥) → Tests m c false 0
-tests_no h = record { yes = λ w. absurd (false≢true w); no = λ w. h }
+-- an inverse of the unit makes a change proper, and can be handed on
+pub proper_by : {m u : ℕ} {c : Change} → c.unit < m → c.origin < m → InverseIs c.unit m (Ok u) → Proper m c
+proper_by a b i = record { unit_below = a; origin_below = b; invertible = inverse-coprime i }
 
--- it says yes, with the inverse
-pub tests_yes : {m u : ℕ} {c : Change} → Modulus m → c.unit < m → c.origin < m → InverseIs c.unit m (Of u) → Tests m c true u
-tests_yes {m} {u} {c} w a b i = record {
-  yes = λ v. (record { unit_below = a; origin_below = b; invertible = inverse-coprime i }, i.0, record { modulus = w; unit = (from_eq (N.mul_comm u c.unit) then turn (reduced (sym i.1))).same });
-  no = λ v. absurd (true≢false v);
-}
+pub inverts_by : {m a u : ℕ} → Modulus m → InverseIs a m (Ok u) → Inverts m a u
+inverts_by {m} {a} {u} w i = record { modulus = w; unit = (from_eq (N.mul_comm u a) then turn (reduced (sym i.1))).same }
 
 -- (1/a, -b/a) undoes (a, b)
 pub undone-is : {m u minus v : ℕ} {c : Change} → Inverts m c.unit u → u < m → c.origin < m → minus ≡ (0 + (m - c.origin)) % m → v ≡ u * minus % m

@@ -13,10 +13,10 @@ use native.Mathlib.Omega.{arith}
 use Rattle.algebra.specs.Number.{Invertible}
 use Rattle.algebra.proofs.Factors.{coprime-invertible}
 use Rattle.algebra.proofs.Changes.{changed_equal, changed-pair_equal, undoes_unique}
-use Rattle.polynomial.specs.declared.Answer.{Answer}
-use Rattle.polynomial.specs.declared.Parts.{Parts}
+use Rattle.polynomial.specs.Answers.{Answer}
+use Rattle.polynomial.specs.Answers.{Parts}
 use Rattle.change.specs.declared.Change.{Change}
-use Rattle.change.specs.declared.Made.{Made}
+use Rattle.change.specs.Changing.{Made}
 use Rattle.change.specs.Changing.{Proper, Combines, Undoing, ChangesPolynomial, ChangesPair, refused, not_proper, first_improper, second_improper, combined, undone, changed}
 
 -- a change by its numbers

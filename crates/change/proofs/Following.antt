@@ -24,11 +24,11 @@ use Rattle.refusal.proofs.Outcomes.{then_both}
 use Rattle.polynomial.specs.Checks.{check_polynomial, check_one, check_two, check_pair, Accepted}
 use Rattle.polynomial.specs.Moduli.{check_modulus}
 use Rattle.polynomial.specs.Answers.{nothing, no_parts}
-use Rattle.polynomial.specs.declared.Answer.{Answer}
-use Rattle.polynomial.specs.declared.Parts.{Parts}
+use Rattle.polynomial.specs.Answers.{Answer}
+use Rattle.polynomial.specs.Answers.{Parts}
 use Rattle.polynomial.proofs.Acceptance.{accepted-above, accepted-one, one-accepted, accepted-pair, pair-accepted}
 use Rattle.change.specs.declared.Change.{Change}
-use Rattle.change.specs.declared.Made.{Made}
+use Rattle.change.specs.Changing.{Made}
 use Rattle.change.specs.Changing.{identity, Proper, combined_change, Undone, Undoing, ChangesPolynomial, ChangesPair, refused, not_proper, undone, changed}
 use Rattle.change.proofs.Determined.{modulus_positive, proper_invertible, change_polynomial_determined, change_pair_determined}
 use Rattle.change.proofs.Combining.{identity_proper, combined_proper, undone_proper}

@@ -2,32 +2,31 @@
 --
 --   made a b, identity              the change (a, b), and the change (1, 0)
 --   Proper m c                      what No. 8 asks: a and b are below m and a has an inverse
---   Tests m c proper inverse        what the test of a change finds
+--   Tests m c x                     what the test of a change answers
 --   combined_change m c d           first c, then d
 --   Undone m c d                    d undoes c
+--   Made                            what combining and undoing return: an outcome and a change
+--   made_of x                       what is returned for the result x of the code
 --   unchanged o                     the outcome o beside (1, 0), as after a refusal
 --   Combines m c d x                x answers: first c, then d
 --   Undoing m c x                   x answers: what undoes c
 --   ChangesPolynomial m f c x       x answers: f changed by c
 --   ChangesPair m g h c x           x answers: the pair g, h changed by c
-use Rattle.std.specs.Prelude.{◌≡◌, Bool, true, false, List, ℕ, ◌%◌, ◌<◌}
+use Rattle.std.specs.Prelude.{◌≡◌, List, ℕ, ◌%◌, ◌<◌, Result, Ok, Err}
 use Rattle.algebra.specs.Number.{Coprime}
 use Rattle.algebra.specs.Polynomial.{degree, Reduced}
 use Rattle.algebra.specs.Change.{Changed, ChangedPair, Undoes, combined_unit, combined_origin}
-use Rattle.refusal.specs.Refusal.{refusal}
+use Rattle.refusal.specs.Refusal.{Outcome, Answered, Refused, refusal, naming_none}
 use Rattle.refusal.specs.declared.Refusal.{Refusal}
 use Rattle.refusal.specs.declared.Concerns.TheVariants.{Neither}
 use Rattle.refusal.specs.declared.Reason.TheVariants as reason
-use Rattle.refusal.specs.Refusal.{Outcome}
-use Rattle.refusal.specs.Refusal.{Answered, Refused}
 use Rattle.polynomial.specs.Moduli.{check_modulus}
 use Rattle.polynomial.specs.Checks.{check_one, check_pair}
 use Rattle.polynomial.specs.Answers.{nothing, no_parts}
-use Rattle.polynomial.specs.declared.Answer.{Answer}
-use Rattle.polynomial.specs.declared.Parts.{Parts}
-use Rattle.moving.specs.Moving.{Inverts}
+use Rattle.polynomial.specs.Answers.{Answer}
+use Rattle.polynomial.specs.Answers.{Parts}
+use Rattle.moving.specs.declared.Move.{Move}
 use Rattle.change.specs.declared.Change.{Change}
-use Rattle.change.specs.declared.Made.{Made}
 
 -- the change (a, b)
 abbrev pub made : ℕ → ℕ → Change
@@ -43,10 +42,10 @@ pub record Proper (m : ℕ) (c : Change) : Type 0 where
   pub origin_below : c.origin < m
   pub invertible : Coprime c.unit m
 
--- what the test of a change finds: yes with an inverse of its unit, or no
-pub record Tests (m : ℕ) (c : Change) (proper : Bool) (inverse : ℕ) : Type 0 where
-  pub yes : proper ≡ true → Proper m c × (inverse < m) × Inverts m c.unit inverse
-  pub no : proper ≡ false → Proper m c → ⊥
+-- what the test of a change by the modulus m answers: the change with an inverse of its unit, or No. 8 for one that is not proper
+abbrev pub Tests : ℕ → Change → Result Move Refusal → Type 0
+Tests m c (Ok x) = Proper m c × (x.modulus.number ≡ m) × (x.unit ≡ c.unit) × (x.origin ≡ c.origin) × (x.inverse < m)
+Tests m c (Err r) = (Proper m c → ⊥) × (r ≡ naming_none reason.Change)
 
 -- (a·a2, a·b2 + b) modulo m
 abbrev pub combined_change : ℕ → Change → Change → Change
@@ -65,9 +64,19 @@ pub record Undone (m : ℕ) (c d : Change) : Type 0 where
 abbrev pub improper : Outcome
 improper = refusal Neither reason.Change
 
+-- what combining and undoing return: (1, 0) beside a refusal
+pub record Made : Type 0 where
+  pub outcome : Outcome
+  pub change : Change
+
 -- (1, 0) beside an outcome
 abbrev pub unchanged : Outcome → Made
 unchanged o = record { outcome = o; change = identity }
+
+-- what is returned for the result x of the code: its change, or (1, 0) beside its refusal
+abbrev pub made_of : Result Change Refusal → Made
+made_of (Ok c) = record { outcome = Answered; change = c }
+made_of (Err r) = unchanged (Refused r)
 
 -- 1, then 8 for the first change, then 8 for the second; else the one change (a·a2, a·b2 + b)
 pub data Combines (m : ℕ) (c d : Change) (x : Made) : Type 0 where

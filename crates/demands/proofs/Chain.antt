@@ -26,7 +26,7 @@ use Rattle.polynomial.specs.Checks.{check_one, Accepted}
 use Rattle.polynomial.proofs.Acceptance.{accepted-one, one-accepted, accepted-above, accepted-changed, degree-fits}
 use Rattle.area.specs.Area.{area_words}
 use Rattle.area.proofs.Reading.{parts-handed}
-use Rattle.chain.specs.declared.Chained.{Chained}
+use Rattle.chain.specs.Chaining.{Chained}
 use Rattle.chain.specs.Chaining.{ChainOf}
 use Rattle.chain.specs.Chaining as of
 use Rattle.chain.proofs.Placing.{parts_within}

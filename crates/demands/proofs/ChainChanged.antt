@@ -18,7 +18,7 @@ use Rattle.polynomial.specs.Checks.{Accepted}
 use Rattle.polynomial.proofs.Acceptance.{one-accepted, accepted-changed, accepted-one}
 use Rattle.change.specs.declared.Change.{Change}
 use Rattle.area.specs.Area.{area_words, part_of, handed_out}
-use Rattle.chain.specs.declared.Chained.{Chained}
+use Rattle.chain.specs.Chaining.{Chained}
 use Rattle.chain.specs.Chaining.{ChainOf}
 use Rattle.chain.specs.Chaining as of
 use Rattle.chain.proofs.Promises.{chain_determined}

@@ -35,11 +35,11 @@ use Rattle.polynomial.specs.Checks.{check_one, Accepted}
 use Rattle.polynomial.proofs.Acceptance.{accepted-one, one-accepted, accepted-changed}
 use Rattle.area.specs.Area.{area_words, handed_out}
 use Rattle.area.proofs.Reading.{parts-handed}
-use Rattle.chain.specs.declared.Chained.{Chained}
+use Rattle.chain.specs.Chaining.{Chained}
 use Rattle.chain.specs.Chaining.{ChainOf}
 use Rattle.chain.specs.Chaining as chain
-use Rattle.chains.specs.declared.Numbered.{Numbered}
-use Rattle.chains.specs.declared.Chosen.{Chosen}
+use Rattle.chains.specs.Choosing.{Numbered}
+use Rattle.chains.specs.Choosing.{Chosen}
 use Rattle.chains.specs.Choosing.{unchosen, NumberOf, NthOf}
 use Rattle.chains.specs.Choosing as of
 use Rattle.chains.proofs.Walking.{nth-within}

@@ -19,11 +19,11 @@ use Rattle.refusal.specs.Refusal.{Answered}
 use Rattle.refusal.proofs.Outcomes.{never}
 use Rattle.polynomial.specs.Moduli.{check_modulus}
 use Rattle.polynomial.specs.Answers.{no_parts}
-use Rattle.polynomial.specs.declared.Answer.{Answer}
-use Rattle.polynomial.specs.declared.Parts.{Parts}
+use Rattle.polynomial.specs.Answers.{Answer}
+use Rattle.polynomial.specs.Answers.{Parts}
 use Rattle.polynomial.proofs.Acceptance.{accepted-above, accepted-pair}
 use Rattle.change.specs.declared.Change.{Change}
-use Rattle.change.specs.declared.Made.{Made}
+use Rattle.change.specs.Changing.{Made}
 use Rattle.change.specs.Changing.{identity, Proper, combined_change, Combines, ChangesPolynomial, ChangesPair}
 use Rattle.change.specs.Changing as of
 use Rattle.change.proofs.Combining.{combine_associative, combine_identity-left, combine_identity-right, combined_proper}

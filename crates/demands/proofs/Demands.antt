@@ -70,25 +70,25 @@ use Rattle.refusal.specs.Refusal.{Outcome}
 use Rattle.refusal.specs.Refusal.{Answered}
 use Rattle.polynomial.specs.Moduli.{modulus, check_modulus}
 use Rattle.polynomial.specs.Checks.{check_one, Accepted}
-use Rattle.polynomial.specs.declared.Answer.{Answer}
-use Rattle.polynomial.specs.declared.Parts.{Parts}
+use Rattle.polynomial.specs.Answers.{Answer}
+use Rattle.polynomial.specs.Answers.{Parts}
 use Rattle.record.specs.Record.{checked}
-use Rattle.record.specs.declared.Checked.{Checked}
+use Rattle.record.specs.Record.{Checked}
 use Rattle.record.proofs.Answers as record-law
 use Rattle.pair.specs.Pairing.{compose, LeftPartOf, Splits}
 use Rattle.pair.proofs.Determined as pair-law
 use Rattle.demands.proofs.Exact as exact-law
-use Rattle.pair.specs.declared.Verdict.{Verdict}
+use Rattle.pair.specs.Asking.{Verdict}
 use Rattle.pair.specs.Asking.{QuickOf}
 use Rattle.pair.proofs.Reports as report-law
 use Rattle.demands.specs.Splitting.{ExactSplit, ExactLeft, Agree, Reported, SplitCarried}
 use Rattle.demands.proofs.Quick as quick-law
 use Rattle.change.specs.declared.Change.{Change}
-use Rattle.change.specs.declared.Made.{Made}
+use Rattle.change.specs.Changing.{Made}
 use Rattle.change.specs.Changing.{identity, ChangesPolynomial, ChangesPair, Combines, Undoing}
 use Rattle.change.proofs.Determined as change-law
 use Rattle.area.specs.Area.{part_of, area_words, written, handed_out}
-use Rattle.chain.specs.declared.Chained.{Chained}
+use Rattle.chain.specs.Chaining.{Chained}
 use Rattle.chain.specs.Chaining.{ChainOf}
 use Rattle.chain.proofs.Promises as chain-law
 use Rattle.demands.specs.Chains.{Complete, Carries, ChainCarried, NthParts, Appears, NthCarried, without_tries}
@@ -98,16 +98,16 @@ use Rattle.demands.proofs.Order as order-law
 use Rattle.demands.proofs.Changes as combine-law
 use Rattle.demands.specs.Sheets.{ValidParts, ComposedOf, Again}
 use Rattle.demands.proofs.Sheets as round-law
-use Rattle.chains.specs.declared.Numbered.{Numbered}
-use Rattle.chains.specs.declared.Chosen.{Chosen}
+use Rattle.chains.specs.Choosing.{Numbered}
+use Rattle.chains.specs.Choosing.{Chosen}
 use Rattle.chains.specs.Choosing.{NumberOf, NthOf}
 use Rattle.chains.proofs.Promises as chains-law
-use Rattle.sheet.specs.declared.Contents.{Contents}
+use Rattle.sheet.specs.Answers.{Contents}
 use Rattle.sheet.specs.Sheet.{sheet_bytes}
 use Rattle.sheet.specs.Answers.{ReadsSheet, WritesSheet}
 use Rattle.sheet.proofs.Words.{Bytes}
 use Rattle.sheet.proofs.Promises as sheet-law
-use Rattle.text.specs.declared.Written.{Written}
+use Rattle.text.specs.Answers.{Written}
 use Rattle.text.specs.Grammar.{Sum, spell, Fits, most_deep}
 use Rattle.text.specs.Language.{Start, FaultAt, Ninth}
 use Rattle.text.specs.Answers.{Sized, ReadsText, WritesText}

@@ -19,8 +19,8 @@ use Rattle.refusal.proofs.Outcomes.{never}
 use Rattle.polynomial.specs.Checks.{Accepted}
 use Rattle.polynomial.specs.Answers.{nothing, no_parts}
 use Rattle.polynomial.specs.Degrees.{Degrees}
-use Rattle.polynomial.specs.declared.Answer.{Answer}
-use Rattle.polynomial.specs.declared.Parts.{Parts}
+use Rattle.polynomial.specs.Answers.{Answer}
+use Rattle.polynomial.specs.Answers.{Parts}
 use Rattle.polynomial.proofs.Acceptance.{degree-fits}
 use Rattle.left.specs.Left.{LeftAnswer}
 use Rattle.left.specs.Left as left

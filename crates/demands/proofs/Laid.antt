@@ -27,7 +27,7 @@ use Rattle.polynomial.specs.Moduli.{modulus}
 use Rattle.polynomial.proofs.Acceptance.{accepted-modulus, polynomial-accepted, degree-fits}
 use Rattle.area.specs.Area.{most_parts, area_words, place, written, part_of, handed_out}
 use Rattle.area.proofs.Reading.{EachFills, part_fills, written-long, read_back, read_past}
-use Rattle.chain.specs.declared.Chained.{Chained}
+use Rattle.chain.specs.Chaining.{Chained}
 use Rattle.demands.specs.Chains.{Complete}
 use Rattle.demands.specs.Sheets.{ValidParts}
 use Rattle.sheet.specs.Sheet.{used, parts_in}

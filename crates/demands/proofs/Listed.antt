@@ -18,7 +18,7 @@ use Rattle.polynomial.specs.Moduli.{modulus}
 use Rattle.polynomial.proofs.Acceptance.{accepted-above}
 use Rattle.area.specs.Area.{area_words}
 use Rattle.area.proofs.Reading.{part_fills}
-use Rattle.chain.specs.declared.Chained.{Chained}
+use Rattle.chain.specs.Chaining.{Chained}
 use Rattle.chain.proofs.Promises.{chain_exact}
 use Rattle.demands.specs.Chains.{Complete}
 use Rattle.demands.proofs.Chain.{chain-complete}

@@ -25,21 +25,21 @@ use Rattle.refusal.specs.declared.Reason.TheVariants.{Factor, Degree}
 use Rattle.refusal.specs.Refusal.{Answered}
 use Rattle.polynomial.specs.Moduli.{machine_words, modulus, smallest, largest, check_modulus}
 use Rattle.polynomial.specs.Checks.{offending, check_coefficients, check_degree, check_polynomial, check_one, check_pair}
-use Rattle.polynomial.specs.declared.Answer.{Answer}
-use Rattle.polynomial.specs.declared.Parts.{Parts}
+use Rattle.polynomial.specs.Answers.{Answer}
+use Rattle.polynomial.specs.Answers.{Parts}
 use Rattle.polynomial.proofs.Moduli.{words-taken}
 use Rattle.pair.specs.Pairing.{check_split, Splits}
 use Rattle.demands.proofs.Exact.{split_shared, split_coprime}
 use Rattle.change.proofs.NotProper.{polynomial-improper, pair-improper, undo_improper, combine_improper}
 use Rattle.change.specs.declared.Change.{Change}
-use Rattle.change.specs.declared.Made.{Made}
+use Rattle.change.specs.Changing.{Made}
 use Rattle.change.specs.Changing.{Proper, improper, ChangesPolynomial, ChangesPair, Combines, Undoing}
 use Rattle.area.specs.Area.{area_words}
-use Rattle.chain.specs.declared.Chained.{Chained}
+use Rattle.chain.specs.Chaining.{Chained}
 use Rattle.chain.specs.Chaining.{ChainOf}
 use Rattle.chain.proofs.Promises.{chain_exact}
-use Rattle.chains.specs.declared.Numbered.{Numbered}
-use Rattle.chains.specs.declared.Chosen.{Chosen}
+use Rattle.chains.specs.Choosing.{Numbered}
+use Rattle.chains.specs.Choosing.{Chosen}
 use Rattle.chains.specs.Choosing.{NumberOf, NthOf}
 use Rattle.demands.proofs.Chain.{chain-complete}
 use Rattle.demands.proofs.Chains.{number_exact, nth-factor}

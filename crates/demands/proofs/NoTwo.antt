@@ -26,41 +26,41 @@ use Rattle.refusal.proofs.Outcomes.{never}
 use Rattle.polynomial.specs.Moduli.{machine_words, modulus, smallest, largest, check_modulus}
 use Rattle.polynomial.specs.Checks.{offending, check_coefficients, check_degree, check_leading, check_polynomial, check_one, check_two, check_pair}
 use Rattle.polynomial.specs.Answers.{nothing, no_parts}
-use Rattle.polynomial.specs.declared.Answer.{Answer}
-use Rattle.polynomial.specs.declared.Parts.{Parts}
+use Rattle.polynomial.specs.Answers.{Answer}
+use Rattle.polynomial.specs.Answers.{Parts}
 use Rattle.polynomial.proofs.Moduli.{modulus_zero, words-taken}
 use Rattle.polynomial.proofs.Acceptance.{coefficients-words}
 use Rattle.left.specs.Left as left
 use Rattle.pair.specs.Pairing.{fits, compose, beside, check_left, check_split, LeftPartOf, Splits}
 use Rattle.pair.specs.Pairing as pairing
-use Rattle.pair.specs.declared.Verdict.{Verdict}
+use Rattle.pair.specs.Asking.{Verdict}
 use Rattle.pair.specs.Asking.{QuickOf}
 use Rattle.pair.specs.Asking as quick
 use Rattle.change.specs.declared.Change.{Change}
 use Rattle.change.specs.Changing.{ChangesPolynomial, ChangesPair}
 use Rattle.change.specs.Changing as changing
 use Rattle.area.specs.Area.{most_parts, area_words, place}
-use Rattle.chain.specs.declared.Chained.{Chained}
+use Rattle.chain.specs.Chaining.{Chained}
 use Rattle.chain.specs.Chaining.{ChainOf}
 use Rattle.chain.specs.Chaining as chaining
-use Rattle.chains.specs.declared.Numbered.{Numbered}
-use Rattle.chains.specs.declared.Chosen.{Chosen}
+use Rattle.chains.specs.Choosing.{Numbered}
+use Rattle.chains.specs.Choosing.{Chosen}
 use Rattle.chains.specs.Choosing.{NumberOf, NthOf}
 use Rattle.chains.specs.Choosing as choosing
 use Rattle.record.specs.Record.{word, record_bytes, coefficients, check_record, checked}
-use Rattle.record.specs.declared.Checked.{Checked}
+use Rattle.record.specs.Record.{Checked}
 use Rattle.record.proofs.Answers.{check_outcome}
 use Rattle.sheet.specs.Sheet.{sheet_bytes, record_at, used, held, parts_in}
 use Rattle.sheet.specs.Checks.{each, in_order, check_room, check_order, check_moduli, check_words, check_placed, check_records, check_part, check_parts, check_product, check_sheet, check_area, check_writer}
 use Rattle.sheet.specs.Answers.{unread, ReadsSheet, WritesSheet}
 use Rattle.sheet.specs.Answers as answers
-use Rattle.sheet.specs.declared.Contents.{Contents}
+use Rattle.sheet.specs.Answers.{Contents}
 use Rattle.sheet.proofs.Words.{Bytes, bytes_piece, word_small}
 use Rattle.text.specs.Writing.{text_of}
 use Rattle.text.specs.Meaning.{meaning}
 use Rattle.text.specs.Answers.{ReadsText, check_text, WritesText, answer_text as answer, checked_text}
 use Rattle.text.specs.Answers as text
-use Rattle.text.specs.declared.Written.{Written}
+use Rattle.text.specs.Answers.{Written}
 use Rattle.demands.specs.Words.{Machine, NotTwo, NotTwoAt}
 
 not_as : {a b : Outcome} → a ≡ b → NotTwo b → NotTwo a

@@ -17,10 +17,10 @@ use Rattle.algebra.proofs.Polynomials.{after_same}
 use Rattle.algebra.proofs.Report.{forced-pair_unique, report_above, report_low}
 use Rattle.refusal.specs.Refusal.{Answered}
 use Rattle.refusal.proofs.Outcomes.{never}
-use Rattle.polynomial.specs.declared.Parts.{Parts}
+use Rattle.polynomial.specs.Answers.{Parts}
 use Rattle.pair.specs.Pairing.{Splits}
 use Rattle.pair.specs.Pairing as of
-use Rattle.pair.specs.declared.Verdict.{Verdict}
+use Rattle.pair.specs.Asking.{Verdict}
 use Rattle.pair.specs.Asking.{unasked, QuickOf}
 use Rattle.pair.specs.Asking as quick
 use Rattle.pair.proofs.Reports.{Posed, posed, refutes}

@@ -33,14 +33,14 @@ use Rattle.polynomial.proofs.Acceptance.{accepted-modulus}
 use Rattle.polynomial.proofs.Filling.{zeros}
 use Rattle.area.specs.Area.{most_parts, area_words, place, written}
 use Rattle.record.specs.Record.{word, record_bytes}
-use Rattle.chain.specs.declared.Chained.{Chained}
+use Rattle.chain.specs.Chaining.{Chained}
 use Rattle.chain.specs.Chaining.{ChainOf}
 use Rattle.demands.proofs.Chain.{chain-complete}
 use Rattle.sheet.specs.Sheet.{sheet_bytes, record_at, used, recorded, sheet_of, held, area_of, parts_in}
 use Rattle.sheet.specs.Checks.{in_order, check_room, check_order, check_placed, check_records, check_sheet, check_area, check_writer}
 use Rattle.sheet.specs.Answers.{unread, ReadsSheet, WritesSheet}
 use Rattle.sheet.specs.Answers as of
-use Rattle.sheet.specs.declared.Contents.{Contents}
+use Rattle.sheet.specs.Answers.{Contents}
 use Rattle.sheet.proofs.Zeros.{at_zero}
 use Rattle.sheet.proofs.Joining.{joined_ext, joined_length, pieces}
 use Rattle.sheet.proofs.Checking.{each_none, each_stop, each_all, parts_ext}

@@ -24,12 +24,12 @@ use Rattle.refusal.proofs.Outcomes.{never}
 use Rattle.polynomial.specs.Checks.{check_one, check_pair, Accepted}
 use Rattle.polynomial.specs.Answers.{no_parts}
 use Rattle.polynomial.specs.Degrees.{Degrees}
-use Rattle.polynomial.specs.declared.Answer.{Answer}
-use Rattle.polynomial.specs.declared.Parts.{Parts}
+use Rattle.polynomial.specs.Answers.{Answer}
+use Rattle.polynomial.specs.Answers.{Parts}
 use Rattle.polynomial.proofs.Acceptance.{accepted-one, one-accepted, accepted-above, pair-accepted, accepted-changed}
 use Rattle.pair.specs.Pairing.{check_split, SplitAnswer, Splits}
 use Rattle.pair.specs.Pairing as pairing
-use Rattle.pair.specs.declared.Verdict.{Verdict}
+use Rattle.pair.specs.Asking.{Verdict}
 use Rattle.pair.specs.Asking.{a_no, QuickAnswer, QuickOf}
 use Rattle.pair.specs.Asking as quick
 use Rattle.pair.proofs.Reports.{posed, refutes, quick_determined}

@@ -16,7 +16,7 @@ use Rattle.refusal.specs.declared.Concerns.TheVariants.{Neither, First}
 use Rattle.refusal.specs.declared.Reason.TheVariants.{Degree, Leading, Limit, Spelling, Depth}
 use Rattle.refusal.specs.Refusal.{Answered, Refused}
 use Rattle.refusal.proofs.Outcomes.{never}
-use Rattle.polynomial.specs.declared.Answer.{Answer}
+use Rattle.polynomial.specs.Answers.{Answer}
 use Rattle.polynomial.specs.Answers.{nothing}
 use Rattle.polynomial.specs.Checks.{check_degree, check_leading, check_one, Accepted}
 use Rattle.polynomial.specs.Moduli.{check_modulus}

@@ -17,9 +17,9 @@ use Rattle.refusal.specs.Refusal.{Answered}
 use Rattle.polynomial.specs.Checks.{Accepted}
 use Rattle.change.specs.declared.Change.{Change}
 use Rattle.area.specs.Area.{most_parts, area_words, written, part_of, handed_out}
-use Rattle.chain.specs.declared.Chained.{Chained}
-use Rattle.chains.specs.declared.Numbered.{Numbered}
-use Rattle.chains.specs.declared.Chosen.{Chosen}
+use Rattle.chain.specs.Chaining.{Chained}
+use Rattle.chains.specs.Choosing.{Numbered}
+use Rattle.chains.specs.Choosing.{Chosen}
 use Rattle.chains.specs.Choosing.{NthOf}
 
 -- the parts of f, listed from the right: 01's chain with its tries; they compose to f, none splits further, all but the leftmost

@@ -11,7 +11,7 @@ use Rattle.polynomial.specs.Moduli.{modulus, check_modulus}
 use Rattle.area.specs.Area.{most_parts, area_words, place}
 use Rattle.sheet.specs.Sheet.{used, parts_in, Parted}
 use Rattle.sheet.specs.Checks.{FirstOnes}
-use Rattle.sheet.specs.declared.Contents.{Contents}
+use Rattle.sheet.specs.Answers.{Contents}
 
 -- any valid parts, whether or not they split further, whatever their constants
 pub record ValidParts (m : ℕ) (parts : List (List ℕ)) : Type 0 where

@@ -15,11 +15,11 @@ use Rattle.refusal.specs.declared.Concerns.TheVariants.{Neither}
 use Rattle.refusal.specs.declared.Reason.TheVariants.{Factor, NoPair}
 use Rattle.refusal.specs.Refusal.{Answered, Refused}
 use Rattle.polynomial.specs.Answers.{nothing, no_parts}
-use Rattle.polynomial.specs.declared.Answer.{Answer}
-use Rattle.polynomial.specs.declared.Parts.{Parts}
+use Rattle.polynomial.specs.Answers.{Answer}
+use Rattle.polynomial.specs.Answers.{Parts}
 use Rattle.left.specs.Left.{LeftPart, NoLeft}
 use Rattle.pair.specs.Pairing.{check_split}
-use Rattle.pair.specs.declared.Verdict.{Verdict}
+use Rattle.pair.specs.Asking.{Verdict}
 use Rattle.pair.specs.Asking.{unasked, a_yes, a_no}
 use Rattle.change.specs.declared.Change.{Change}
 use Rattle.change.specs.Changing.{ChangesPair}

@@ -10,7 +10,7 @@ use Rattle.refusal.specs.Refusal.{number}
 use Rattle.refusal.specs.Refusal.{Outcome}
 use Rattle.refusal.specs.Refusal.{Answered, Refused}
 use Rattle.polynomial.specs.Checks.{Accepted}
-use Rattle.polynomial.specs.declared.Answer.{Answer}
+use Rattle.polynomial.specs.Answers.{Answer}
 use Rattle.text.specs.Grammar.{most_deep}
 use Rattle.text.specs.Meaning.{meaning, Within}
 use Rattle.text.specs.Language.{Sentence, FaultAt}

@@ -25,26 +25,26 @@ use mathlib.Core.List.{List, [], ◌∷◌}
 use Prim.Native.Nat.{ℕ, zero, suc}
 use lib.ListN.{length}
 use Rattle.algebra.specs.Polynomial.{terms}
-use Rattle.polynomial.specs.declared.Answer.{Answer}
-use Rattle.polynomial.specs.declared.Parts.{Parts}
+use Rattle.polynomial.specs.Answers.{Answer}
+use Rattle.polynomial.specs.Answers.{Parts}
 use Rattle.pair.specs.Pairing.{compose, LeftPartOf, Splits}
 use Rattle.pair.proofs.Determined.{compose_determined, left-part_determined, split_determined}
 use Rattle.change.specs.declared.Change.{Change}
-use Rattle.change.specs.declared.Made.{Made}
+use Rattle.change.specs.Changing.{Made}
 use Rattle.change.specs.Changing.{ChangesPolynomial, ChangesPair, Combines, Undoing}
 use Rattle.change.proofs.Determined.{change_polynomial_determined, change_pair_determined, combine_determined, undo_determined}
 use Rattle.area.specs.Area.{start, part_of}
-use Rattle.chain.specs.declared.Chained.{Chained}
+use Rattle.chain.specs.Chaining.{Chained}
 use Rattle.chain.proofs.Promises.{chain_determined}
-use Rattle.chains.specs.declared.Numbered.{Numbered}
-use Rattle.chains.specs.declared.Chosen.{Chosen}
+use Rattle.chains.specs.Choosing.{Numbered}
+use Rattle.chains.specs.Choosing.{Chosen}
 use Rattle.chains.proofs.Promises.{number_determined, nth_determined}
-use Rattle.sheet.specs.declared.Contents.{Contents}
+use Rattle.sheet.specs.Answers.{Contents}
 use Rattle.sheet.proofs.Promises.{write_determined, read_determined}
-use Rattle.text.specs.declared.Written.{Written}
+use Rattle.text.specs.Answers.{Written}
 use Rattle.text.specs.Answers.{ReadsText}
 use Rattle.text.proofs.Promises as text-law
-use Rattle.pair.specs.declared.Verdict.{Verdict}
+use Rattle.pair.specs.Asking.{Verdict}
 use Rattle.pair.proofs.Reports.{quick_determined}
 use Rattle.desk.specs.Face.{told, said, QuickAs, CheckedAs, AnswersAs, PartsAs, MadeAs, ChainedAs, NumberedAs, ChosenAs, SheetAs, ReadAs, TextAs, start_of, place_of}
 use Rattle.desk.specs.declared.Refused.{Refused}

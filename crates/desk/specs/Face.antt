@@ -18,21 +18,21 @@ use Rattle.std.specs.Prelude.{◌≡◌, Bool, true, false, List, [], ◌∷◌,
 use Rattle.refusal.specs.Refusal.{number, polynomial, power}
 use Rattle.refusal.specs.Refusal.{Outcome}
 use Rattle.refusal.specs.Refusal.{Answered, Refused}
-use Rattle.polynomial.specs.declared.Answer.{Answer}
-use Rattle.polynomial.specs.declared.Parts.{Parts}
-use Rattle.pair.specs.declared.Verdict.{Verdict}
+use Rattle.polynomial.specs.Answers.{Answer}
+use Rattle.polynomial.specs.Answers.{Parts}
+use Rattle.pair.specs.Asking.{Verdict}
 use Rattle.pair.specs.Asking.{QuickOf}
-use Rattle.change.specs.declared.Made.{Made}
-use Rattle.chain.specs.declared.Chained.{Chained}
+use Rattle.change.specs.Changing.{Made}
+use Rattle.chain.specs.Chaining.{Chained}
 use Rattle.chain.specs.Chaining.{ChainOf}
-use Rattle.chains.specs.declared.Numbered.{Numbered}
-use Rattle.chains.specs.declared.Chosen.{Chosen}
+use Rattle.chains.specs.Choosing.{Numbered}
+use Rattle.chains.specs.Choosing.{Chosen}
 use Rattle.chains.specs.Choosing.{NumberOf, NthOf}
 use Rattle.area.specs.Area.{start, part_of}
 use Rattle.record.specs.Record.{checked}
-use Rattle.sheet.specs.declared.Contents.{Contents}
+use Rattle.sheet.specs.Answers.{Contents}
 use Rattle.sheet.specs.Answers.{ReadsSheet, WritesSheet}
-use Rattle.text.specs.declared.Written.{Written}
+use Rattle.text.specs.Answers.{Written}
 use Rattle.text.specs.Answers.{WritesText}
 use Rattle.desk.specs.declared.Refused as face
 

@@ -13,7 +13,7 @@ use Rattle.refusal.specs.declared.Reason.TheVariants.{NoPair}
 use Rattle.refusal.specs.Refusal.{Answered}
 use Rattle.polynomial.specs.Answers.{nothing}
 use Rattle.polynomial.specs.Degrees.{Degrees}
-use Rattle.polynomial.specs.declared.Answer.{Answer}
+use Rattle.polynomial.specs.Answers.{Answer}
 
 -- g is the left part
 pub record LeftPart (m : ℕ) (f : List ℕ) (r : ℕ) (h g : List ℕ) : Type 0 where

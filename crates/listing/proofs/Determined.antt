@@ -15,7 +15,7 @@ use Rattle.refusal.specs.Refusal.{number_of}
 use Rattle.refusal.specs.Refusal.{Outcome}
 use Rattle.refusal.proofs.Outcomes.{never}
 use Rattle.digits.specs.Digits.{Put}
-use Rattle.chain.specs.declared.Chained.{Chained}
+use Rattle.chain.specs.Chaining.{Chained}
 use Rattle.chain.proofs.Promises.{chain_determined}
 use Rattle.record.specs.Record.{coefficients}
 use Rattle.record.proofs.Answers.{coefficients-long}

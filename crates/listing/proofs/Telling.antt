@@ -20,12 +20,12 @@ use Rattle.polynomial.specs.Moduli.{modulus}
 use Rattle.polynomial.specs.Checks.{check_one}
 use Rattle.polynomial.proofs.Acceptance.{accepted-one, accepted-above, degree-fits}
 use Rattle.area.specs.Area.{most_parts, area_words, place, cleared, laid}
-use Rattle.chain.specs.declared.Chained.{Chained}
+use Rattle.chain.specs.Chaining.{Chained}
 use Rattle.chain.specs.Chaining.{ChainedIn, ChainFound, ChainOf}
 use Rattle.chain.proofs.Answering.{told-found}
 use Rattle.chain.specs.Chaining as chain
 use Rattle.chain.proofs.Placing.{chained-within, parts_within}
-use Rattle.record.specs.declared.Checked.{Checked}
+use Rattle.record.specs.Record.{Checked}
 use Rattle.record.specs.Record.{checked}
 use Rattle.record.proofs.Answers.{check_outcome, check_answered}
 use Rattle.listing.specs.Text.{most_line, fields}

@@ -17,7 +17,7 @@ use Rattle.refusal.specs.Refusal.{Answered, Refused}
 use Rattle.digits.specs.Digits.{Put}
 use Rattle.polynomial.specs.Moduli.{modulus}
 use Rattle.area.specs.Area.{area_words, place}
-use Rattle.chain.specs.declared.Chained.{Chained}
+use Rattle.chain.specs.Chaining.{Chained}
 use Rattle.chain.specs.Chaining.{ChainOf}
 use Rattle.record.specs.Record.{word, record_bytes, coefficients, check_record}
 use Rattle.listing.specs.Text.{most_line, fields}

@@ -14,9 +14,8 @@ use Rattle.algebra.proofs.Numbers.{mul-same, pow-same, mul-pow, one-pow}
 use Rattle.algebra.proofs.Polynomials.{◌⨾◌, same_sym, plus-same, constant-same, scaled-same, scaled-scaled, scaled-number, scaled-one}
 use Rattle.algebra.proofs.Coefficients.{coef-plus, coef-scaled}
 use Rattle.algebra.proofs.Changes.{changed_numbers}
-use Rattle.refusal.specs.Refusal.{Answered}
 use Rattle.algebra.proofs.Congruent as congruent
-use Rattle.polynomial.specs.declared.Parts.{Parts}
+use Rattle.polynomial.specs.declared.Pair.{Pair}
 use Rattle.moving.specs.Moving.{moved}
 use Rattle.moving.specs.Moving.{PolynomialChanged, RightChanged, PairChanged}
 use Rattle.algebra.proofs.Reduction.{reduced-reduced, reduced-same}
@@ -69,10 +68,9 @@ module _ {m : ℕ} (pos : 0 < m) where
         }
 
   -- the changed pair, where (a^s, h(b)) was handed on as remainders
-  pub changed-pair-is : {r s a b c d : ℕ} {g h : List ℕ} {x : Parts} → x.outcome ≡ Answered → RightChanged m s a b h x.right d → c ≡ a ^ s % m
+  pub changed-pair-is : {r s a b c d : ℕ} {g h : List ℕ} {x : Pair} → RightChanged m s a b h x.right d → c ≡ a ^ s % m
       → PolynomialChanged m r c d g x.left → PairChanged m r s a b g h x
-  changed-pair-is {r} {s} {a} {b} {c} {d} {g} {h} {x} o k e l = record {
-    answered = o;
+  changed-pair-is {r} {s} {a} {b} {c} {d} {g} {h} {x} k e l = record {
     reduced_left = l.reduced;
     reduced_right = k.reduced;
     pair = record {

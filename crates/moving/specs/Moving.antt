@@ -9,8 +9,7 @@ use Rattle.std.specs.Prelude.{◌≡◌, List, [], ◌∷◌, ℕ, ◌*◌, ◌%
 use Rattle.algebra.specs.Number.{Modulus}
 use Rattle.algebra.specs.Polynomial.{coef, value, Reduced}
 use Rattle.algebra.specs.Change.{Changed, ChangedRight, ChangedPair}
-use Rattle.refusal.specs.Refusal.{Answered}
-use Rattle.polynomial.specs.declared.Parts.{Parts}
+use Rattle.polynomial.specs.declared.Pair.{Pair}
 use Rattle.composition.specs.Composition.{composition, Ends}
 
 -- b + a·x
@@ -43,9 +42,8 @@ pub record RightChanged (m s a b : ℕ) (h h' : List ℕ) (origin : ℕ) : Type 
   pub right : ChangedRight m s a b h h'
   pub origin_is : origin ≡ value h b % m
 
--- both parts reduced, and the changed pair, with no refusal
-pub record PairChanged (m r s a b : ℕ) (g h : List ℕ) (x : Parts) : Type 0 where
-  pub answered : x.outcome ≡ Answered
+-- both parts reduced, and the changed pair
+pub record PairChanged (m r s a b : ℕ) (g h : List ℕ) (x : Pair) : Type 0 where
   pub reduced_left : Reduced m x.left
   pub reduced_right : Reduced m x.right
   pub pair : ChangedPair m r s a b g h x.left x.right

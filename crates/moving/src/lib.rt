@@ -5,32 +5,12 @@ ghost use Rattle.std.specs.Prelude.{◌≡◌, length};
 ghost use Rattle.algebra.specs.Polynomial.{scaled, terms, reduced, Held};
 ghost use Rattle.moving.specs.Moving.{Lined, moved as moved_of, Inverts, PolynomialChanged, RightChanged, PairChanged};
 
-use polynomial::{Coefficients, Parts, TERMS};
+use polynomial::{Coefficients, Pair, TERMS};
 use reciprocal::Divisor;
-use refusal::Outcome;
-
-// b + a·x.
-fn line(a: u32, b: u32) -> Coefficients
-    ensures { Lined a b result }
-{
-    let mut l = [0; TERMS];
-    l[0] = b;
-    l[1] = a;
-    l
-}
-
-// f(a·x + b), for f of degree n.
-fn moved(f: &[u32], n: usize, a: u32, b: u32, m: Divisor) -> Coefficients
-    requires { Held m.number n f.now }
-    ensures { result ≡ moved_of m.number f.now a b }
-{
-    let l = line(a, b);
-    composition::compose(f, &l, n, 1, m)
-}
 
 // Each coefficient times c.
 fn multiple(p: &[u32], c: u32, m: Divisor) -> Coefficients
-    requires { (length p.now ≡ terms) }
+    requires { length p.now ≡ terms }
     ensures { result ≡ reduced m.number (scaled c p.now) }
 {
     let mut q = [0; TERMS];
@@ -40,63 +20,80 @@ fn multiple(p: &[u32], c: u32, m: Divisor) -> Coefficients
     q
 }
 
-// a^(-n)·f(a·x + b), by the inverse u of a.
-pub fn changed(f: &[u32], n: usize, a: u32, b: u32, u: u32, m: Divisor) -> Coefficients
-    requires { Inverts m.number a u × Held m.number n f.now × Ready m }
-    ensures { PolynomialChanged m.number n a b f.now result }
-{
-    let p = moved(f, n, a, b, m);
-    multiple(&p, residue::power(u, n, m), m)
-}
-
 // The right part's share: h', and h(b) which goes to the left part.
-#[derive(Drop)]
+#[derive(Clone, Copy)]
 struct Right {
     part: Coefficients,
     origin: u32,
 }
 
-// h' = a^(-s)·(h(a·x + b) - h(b)): the constant of h(a·x + b) is h(b).
-fn changed_right(h: &[u32], s: usize, a: u32, b: u32, u: u32, m: Divisor) -> Right
-    requires { Inverts m.number a u × Held m.number s h.now × Ready m }
-    ensures { RightChanged m.number s a b h.now result.part result.origin }
-{
-    let mut p = moved(h, s, a, b, m);
-    let origin = p[0];
-    p[0] = 0;
-    Right {
-        part: multiple(&p, residue::power(u, s, m), m),
-        origin,
-    }
+// A change x to a·x + b, its unit a and its origin b, with the inverse of a modulo m.
+#[derive(Clone, Copy)]
+pub struct Move {
+    pub unit: u32,
+    pub origin: u32,
+    pub inverse: u32,
+    pub modulus: Divisor,
+    pub ghost inverts: { Inverts modulus.number unit inverse },
 }
 
-// The changed pair.
-pub fn changed_pair(
-    g: &[u32],
-    r: usize,
-    h: &[u32],
-    s: usize,
-    a: u32,
-    b: u32,
-    u: u32,
-    m: Divisor,
-) -> Parts
-    requires { Inverts m.number a u × Held m.number r g.now × Held m.number s h.now × Ready m }
-    ensures { PairChanged m.number r s a b g.now h.now result }
-{
-    let right = changed_right(h, s, a, b, u, m);
-    let part = right.part;
-    let left = changed(
-        g,
-        r,
-        residue::power(a, s, m),
-        right.origin,
-        residue::power(u, s, m),
-        m,
-    );
-    Parts {
-        outcome: Outcome::Answered,
-        left,
-        right: part,
+impl Move {
+    // b + a·x.
+    fn line(self) -> Coefficients
+        ensures { Lined self.unit self.origin result }
+    {
+        let mut l = [0; TERMS];
+        l[0] = self.origin;
+        l[1] = self.unit;
+        l
+    }
+
+    // f(a·x + b), for f of degree n.
+    fn moved(self, f: &[u32], n: usize) -> Coefficients
+        requires { Held self.modulus.number n f.now }
+        ensures { result ≡ moved_of self.modulus.number f.now self.unit self.origin }
+    {
+        composition::compose(f, &self.line(), n, 1, self.modulus)
+    }
+
+    // a^(-n)·f(a·x + b).
+    pub fn changed(self, f: &[u32], n: usize) -> Coefficients
+        requires { Held self.modulus.number n f.now }
+        ensures { PolynomialChanged self.modulus.number n self.unit self.origin f.now result }
+    {
+        let m = self.modulus;
+        let p = self.moved(f, n);
+        multiple(&p, residue::power(self.inverse, n, m), m)
+    }
+
+    // h' = a^(-s)·(h(a·x + b) - h(b)): the constant of h(a·x + b) is h(b).
+    fn changed_right(self, h: &[u32], s: usize) -> Right
+        requires { Held self.modulus.number s h.now }
+        ensures { RightChanged self.modulus.number s self.unit self.origin h.now result.part result.origin }
+    {
+        let m = self.modulus;
+        let mut p = self.moved(h, s);
+        let origin = p[0];
+        p[0] = 0;
+        let part = multiple(&p, residue::power(self.inverse, s, m), m);
+        Right { part, origin }
+    }
+
+    // The changed pair: g goes to a^s·x + h(b).
+    pub fn changed_pair(self, g: &[u32], r: usize, h: &[u32], s: usize) -> Pair
+        requires { Held self.modulus.number r g.now × Held self.modulus.number s h.now }
+        ensures { PairChanged self.modulus.number r s self.unit self.origin g.now h.now result }
+    {
+        let m = self.modulus;
+        let right = self.changed_right(h, s);
+        let outer = Move {
+            unit: residue::power(self.unit, s, m),
+            origin: right.origin,
+            inverse: residue::power(self.inverse, s, m),
+            modulus: m,
+        };
+        let left = outer.changed(g, r);
+        let right = right.part;
+        Pair { left, right }
     }
 }

@@ -20,13 +20,13 @@ use Rattle.refusal.specs.Refusal.{Answered}
 use Rattle.refusal.proofs.Outcomes.{then_refused, then_answered, a_refusal, answered}
 use Rattle.polynomial.specs.Checks.{check_one, check_two, check_pair}
 use Rattle.polynomial.specs.Answers.{nothing, no_parts}
-use Rattle.polynomial.specs.declared.Answer.{Answer}
-use Rattle.polynomial.specs.declared.Parts.{Parts}
+use Rattle.polynomial.specs.Answers.{Answer}
+use Rattle.polynomial.specs.Answers.{Parts}
 use Rattle.left.specs.Left.{LeftAnswer}
 use Rattle.composition.specs.Composition.{composition}
 use Rattle.pair.specs.Pairing.{fits, compose, check_left, LeftPartOf, check_split, Splits, SplitAnswer}
 use Rattle.pair.specs.Pairing as of
-use Rattle.pair.specs.declared.Verdict.{Verdict}
+use Rattle.pair.specs.Asking.{Verdict}
 use Rattle.pair.specs.Asking.{unasked, QuickOf, QuickAnswer}
 use Rattle.pair.specs.Asking as quick
 

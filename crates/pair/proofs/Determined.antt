@@ -32,8 +32,8 @@ use Rattle.refusal.proofs.Outcomes.{never, answered, then_both, refuse-answered}
 use Rattle.polynomial.specs.Checks.{check_one, check_two, Accepted}
 use Rattle.polynomial.specs.Answers.{nothing, no_parts}
 use Rattle.polynomial.specs.Degrees.{Degrees}
-use Rattle.polynomial.specs.declared.Answer.{Answer}
-use Rattle.polynomial.specs.declared.Parts.{Parts}
+use Rattle.polynomial.specs.Answers.{Answer}
+use Rattle.polynomial.specs.Answers.{Parts}
 use Rattle.polynomial.proofs.Acceptance.{accepted-modulus, accepted-one, accepted_as, one-accepted, accepted-two, two-accepted, accepted-above, degree-fits, pair-accepted}
 use Rattle.left.specs.Left.{LeftAnswer}
 use Rattle.left.specs.Left as left

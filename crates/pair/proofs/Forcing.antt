@@ -30,8 +30,8 @@ use Rattle.polynomial.specs.Degrees.{Degrees}
 use Rattle.refusal.specs.Refusal.{is_refused}
 use Rattle.refusal.specs.Refusal.{Answered}
 use Rattle.polynomial.specs.Answers.{nothing, no_parts}
-use Rattle.polynomial.specs.declared.Answer.{Answer}
-use Rattle.polynomial.specs.declared.Parts.{Parts}
+use Rattle.polynomial.specs.Answers.{Answer}
+use Rattle.polynomial.specs.Answers.{Parts}
 use Rattle.left.specs.Left.{LeftPart, NoLeft, LeftAsked, LeftAnswer}
 use Rattle.report.specs.Report.{LeftReport}
 use Rattle.report.specs.Report as digits

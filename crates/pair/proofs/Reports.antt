@@ -16,7 +16,7 @@ use Rattle.refusal.specs.Refusal.{Answered}
 use Rattle.refusal.proofs.Outcomes.{never}
 use Rattle.polynomial.proofs.Acceptance.{accepted-above}
 use Rattle.pair.specs.Pairing.{check_split}
-use Rattle.pair.specs.declared.Verdict.{Verdict}
+use Rattle.pair.specs.Asking.{Verdict}
 use Rattle.pair.specs.Asking.{unasked, a_no, QuickAnswer, QuickOf}
 use Rattle.pair.specs.Asking as quick
 use Rattle.pair.proofs.Determined.{split_accepted}

@@ -23,8 +23,8 @@ use Rattle.refusal.specs.Refusal.{Outcome}
 use Rattle.refusal.specs.Refusal.{Answered, Refused}
 use Rattle.polynomial.specs.Checks.{check_one, check_two, check_pair}
 use Rattle.polynomial.specs.Answers.{nothing, no_parts}
-use Rattle.polynomial.specs.declared.Answer.{Answer}
-use Rattle.polynomial.specs.declared.Parts.{Parts}
+use Rattle.polynomial.specs.Answers.{Answer}
+use Rattle.polynomial.specs.Answers.{Parts}
 use Rattle.polynomial.specs.Degrees.{Degrees}
 use Rattle.composition.specs.Composition.{composition}
 use Rattle.left.specs.Left.{LeftAnswer}

@@ -28,7 +28,7 @@ use Rattle.algebra.proofs.Chains.{splits, split_half, unsplit-at, split_at}
 use Rattle.polynomial.specs.Degrees.{Degrees}
 use Rattle.refusal.specs.Refusal.{is_refused}
 use Rattle.polynomial.specs.Answers.{no_parts}
-use Rattle.polynomial.specs.declared.Parts.{Parts}
+use Rattle.polynomial.specs.Answers.{Parts}
 use Rattle.right.specs.Right.{Root}
 use Rattle.pair.specs.Pairing.{SplitAsked, Opened, SplitAnswer}
 use Rattle.pair.specs.Pairing as of

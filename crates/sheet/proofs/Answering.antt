@@ -30,7 +30,7 @@ use Rattle.sheet.specs.Checks.{check_room, check_order, check_records, check_mod
 use Rattle.sheet.specs.Answers.{unread, ReadsSheet, WritesSheet}
 use Rattle.sheet.specs.Answers as of
 use Rattle.sheet.specs.Steps.{Taken, Used, Rising, Composes}
-use Rattle.sheet.specs.declared.Contents.{Contents}
+use Rattle.sheet.specs.Answers.{Contents}
 use Rattle.sheet.proofs.Checking.{parts_ext, product_ext}
 use Rattle.sheet.proofs.Taking.{place-taken, used-same, records_rising, records_parted, sheet_modulus, rising_ext, parted_ext}
 

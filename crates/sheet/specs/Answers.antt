@@ -14,7 +14,7 @@ use Rattle.area.specs.Area.{most_parts, area_words, cleared}
 use Rattle.record.specs.Record.{word}
 use Rattle.sheet.specs.Sheet.{sheet_bytes, sheet_of, held, area_of, parts_in}
 use Rattle.sheet.specs.Checks.{check_room, check_sheet, check_writer}
-use Rattle.sheet.specs.declared.Contents.{Contents}
+use Rattle.sheet.specs.Answers.{Contents}
 
 -- zeros beside an outcome
 unfoldable pub unread : Outcome → Contents

@@ -26,9 +26,9 @@ use Rattle.polynomial.specs.Moduli.{modulus}
 use Rattle.area.specs.Area.{area_words}
 use Rattle.record.specs.Record.{word, record_bytes, coefficients, check_record}
 use Rattle.record.proofs.Answers.{coefficients-long, one-checked}
-use Rattle.chain.specs.declared.Chained.{Chained}
+use Rattle.chain.specs.Chaining.{Chained}
 use Rattle.chain.proofs.Promises.{chain_determined, chain_exact}
-use Rattle.sheet.specs.declared.Contents.{Contents}
+use Rattle.sheet.specs.Answers.{Contents}
 use Rattle.sheet.specs.Sheet.{sheet_bytes, record_at, joined, sheet_of}
 use Rattle.sheet.specs.Answers.{ReadsSheet}
 use Rattle.sheet.proofs.Joining.{joined_ext, pieces as cut_and_joined}

@@ -18,10 +18,10 @@ use Rattle.refusal.specs.Refusal.{is_refused}
 use Rattle.refusal.proofs.Outcomes.{answered, a_refusal, refused_by}
 use Rattle.polynomial.specs.Moduli.{modulus}
 use Rattle.area.specs.Area.{area_words}
-use Rattle.record.specs.declared.Checked.{Checked}
+use Rattle.record.specs.Record.{Checked}
 use Rattle.record.specs.Record.{checked}
 use Rattle.record.proofs.Answers.{check_outcome, check_answered}
-use Rattle.chain.specs.declared.Chained.{Chained}
+use Rattle.chain.specs.Chaining.{Chained}
 use Rattle.chain.specs.Chaining.{ChainOf}
 use Rattle.sheet.specs.Sheet.{sheet_bytes, record_at, sheet_of}
 use Rattle.sheets.specs.Sheets.{SheetOf, records, sheet_at, SheetsIn}

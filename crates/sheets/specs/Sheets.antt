@@ -14,7 +14,7 @@ use Rattle.refusal.specs.Refusal.{Answered, Refused}
 use Rattle.polynomial.specs.Moduli.{modulus}
 use Rattle.area.specs.Area.{area_words}
 use Rattle.record.specs.Record.{word, record_bytes, coefficients, check_record}
-use Rattle.chain.specs.declared.Chained.{Chained}
+use Rattle.chain.specs.Chaining.{Chained}
 use Rattle.chain.specs.Chaining.{ChainOf}
 use Rattle.sheet.specs.Sheet.{sheet_bytes, record_at, sheet_of}
 

@@ -16,7 +16,7 @@ use Rattle.refusal.specs.declared.Concerns.TheVariants.{Neither, First}
 use Rattle.refusal.specs.declared.Reason.TheVariants.{Limit, Area, Spelling, Depth}
 use Rattle.refusal.specs.Refusal.{Answered, Refused}
 use Rattle.refusal.proofs.Outcomes.{never}
-use Rattle.polynomial.specs.declared.Answer.{Answer}
+use Rattle.polynomial.specs.Answers.{Answer}
 use Rattle.polynomial.specs.Answers.{nothing}
 use Rattle.polynomial.specs.Checks.{check_degree, check_leading, check_coefficients, check_polynomial, check_one, offending}
 use Rattle.polynomial.specs.Moduli.{check_modulus}
@@ -30,7 +30,7 @@ use Rattle.text.specs.Language.{Sentence, Start, FaultAt, Ninth}
 use Rattle.text.specs.Meaning.{meaning, Within}
 use Rattle.text.specs.Answers.{Sized, ReadsText, modulus, unsized, ninth, misspelt, high, read, WritesText, refused, wrote, checked_text, check_text}
 use Rattle.text.specs.Writing.{text_of}
-use Rattle.text.specs.declared.Written.{Written}
+use Rattle.text.specs.Answers.{Written}
 use Rattle.text.proofs.Spelling.{one-meaning}
 
 -- a fault is none of a text of the language

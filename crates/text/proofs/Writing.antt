@@ -29,14 +29,14 @@ use Rattle.built.proofs.Singles.{single-same, single-other, single-high, number-
 use Rattle.built.proofs.Joining.{reduced-low}
 use Rattle.refusal.specs.declared.Concerns.TheVariants.{First}
 use Rattle.refusal.specs.Refusal.{Answered}
-use Rattle.polynomial.specs.declared.Answer.{Answer}
+use Rattle.polynomial.specs.Answers.{Answer}
 use Rattle.polynomial.specs.Checks.{check_one, Accepted}
 use Rattle.digits.specs.Digits.{decimal, digits, most_digits, digit}
 use Rattle.text.specs.Grammar.{Sum, Product, term, add, single, multiply, plain, raised, number, unknown, spell, digits_value, digits_value_from, AllDigits, Decimal, Fits, FitsProduct, most_deep}
 use Rattle.text.specs.Language.{Sentence}
 use Rattle.text.specs.Meaning.{meaning, meaning_product, Within, WithinProduct}
 use Rattle.text.specs.Answers.{Sized, ReadsText, check_text, WritesText, refused, wrote, checked_text}
-use Rattle.text.specs.declared.Written.{Written}
+use Rattle.text.specs.Answers.{Written}
 use Rattle.refusal.proofs.Outcomes.{never, then_both}
 use Rattle.text.specs.Writing.{term_text, lower_term, lower, text_of, most_term}
 use Rattle.digits.proofs.Text.{tens, small, large}

@@ -15,11 +15,11 @@ use Rattle.refusal.specs.declared.Concerns.TheVariants.{Neither, First}
 use Rattle.refusal.specs.declared.Reason.TheVariants.{Limit, Area, Spelling, Depth}
 use Rattle.refusal.specs.Refusal.{Outcome}
 use Rattle.refusal.specs.Refusal.{Answered, Refused}
-use Rattle.polynomial.specs.declared.Answer.{Answer}
+use Rattle.polynomial.specs.Answers.{Answer}
 use Rattle.polynomial.specs.Answers.{nothing}
 use Rattle.polynomial.specs.Moduli.{check_modulus}
 use Rattle.polynomial.specs.Checks.{check_degree, check_leading, check_one}
-use Rattle.text.specs.declared.Written.{Written}
+use Rattle.text.specs.Answers.{Written}
 use Rattle.text.specs.Grammar.{most_deep}
 use Rattle.text.specs.Meaning.{meaning, Within}
 use Rattle.text.specs.Language.{Sentence, Ninth}

@@ -18,7 +18,7 @@ use Rattle.refusal.specs.declared.Concerns.TheVariants.{Neither, First}
 use Rattle.refusal.specs.declared.Reason.TheVariants.{Limit, Spelling, Depth}
 use Rattle.refusal.specs.Refusal.{Outcome}
 use Rattle.refusal.specs.Refusal.{Answered}
-use Rattle.polynomial.specs.declared.Answer.{Answer}
+use Rattle.polynomial.specs.Answers.{Answer}
 use Rattle.polynomial.specs.Answers.{nothing}
 use Rattle.polynomial.specs.Moduli.{check_modulus}
 use Rattle.polynomial.specs.Checks.{check_polynomial}

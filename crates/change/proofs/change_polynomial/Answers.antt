@@ -1,45 +1,41 @@
-use mathlib.Core.Path.{refl, ap, ◌∙◌}
+use mathlib.Core.Path.{◌≡◌, refl, sym, ◌∙◌}
 use native.Mathlib.Omega.{arith}
 use borrow.Author.Rules.{rules}
-use borrow.Author.Tests.{not-true, not-false}
+use Rattle.std.specs.Prelude.{Err}
 use Rattle.algebra.specs.Polynomial.{limit, terms}
-use Rattle.polynomial.specs.Answers.{nothing}
 use Rattle.polynomial.proofs.Acceptance.{accepted-modulus, accepted-one, accepted_as}
 use Rattle.change.specs.Changing.{refused, not_proper, changed}
-use Rattle.refusal.proofs.Outcomes.{refused_by, passed_on}
 use Rattle.change.proofs.change_polynomial.Goals as goal
 
-pub check_one-o-requires : goal.check_one-o-requires
+pub check_one-requires : goal.check_one-requires
 unfolding terms limit
-check_one-o-requires c = search rules
+check_one-requires c = search rules
 
-pub returns-then-refuses : goal.returns-then-refuses
-returns-then-refuses c =
-    let (r, is, here) = refused_by c.check_one-o.ensures c.refuses.ensures c.if-refuses.true in
-    rw (← c.modulus-m.ensures) (refused is (c.nothing.ensures ∙ ap nothing here))
+pub returns-in_err-check_one : goal.returns-in_err-check_one
+returns-in_err-check_one c =
+    let e : c.from_residual.result ≡ Err c.in_err-check_one.field-0.0 = search rules in
+    rw (e, ← c.modulus-m.ensures) (refused (sym c.check_one.ensures ∙ c.in_err-check_one.was) refl)
 
-pub proper-t-requires : goal.proper-t-requires
+pub new-requires : goal.new-requires
 unfolding terms limit
-proper-t-requires c = accepted-modulus (accepted-one (omega arith) (passed_on c.check_one-o.ensures c.refuses.ensures c.if-refuses.false)).modulus
+new-requires c = accepted-modulus (accepted-one (omega arith) (sym c.check_one.ensures ∙ c.in_ok-check_one.was)).modulus
 
-pub returns-then-not-t : goal.returns-then-not-t
-returns-then-not-t c =
-    rw (← c.modulus-m.ensures) (not_proper (passed_on c.check_one-o.ensures c.refuses.ensures c.if-refuses.false) (c.proper-t.ensures.no (not-true _ c.if-not-t.true)) (c.nothing-then-not-t.ensures ∙ ap nothing c.improper.ensures))
-
-pub made_ready-requires : goal.made_ready-requires
-unfolding terms limit
-made_ready-requires c = accepted-modulus (accepted-one (omega arith) (passed_on c.check_one-o.ensures c.refuses.ensures c.if-refuses.false)).modulus
+-- No. 8
+pub returns-in_err-c : goal.returns-in_err-c
+returns-in_err-c c =
+    let (n, is) = c.in_err-c.ensures in
+    let e : c.from_residual-in_err-c.result ≡ Err c.in_err-c.field-0.0 = search rules in
+    rw (e, is, ← c.modulus-m.ensures) (not_proper (sym c.check_one.ensures ∙ c.in_ok-check_one.was) (rw c.new.ensures at n) refl)
 
 pub changed-requires : goal.changed-requires
 unfolding terms limit
 changed-requires c =
-    let d = c.made_ready.ensures in
-    let f = accepted-one (omega arith) (passed_on c.check_one-o.ensures c.refuses.ensures c.if-refuses.false) in
-    let (p, l, e) = c.proper-t.ensures.yes (not-false _ c.if-not-t.false) in
-    (rw d.0 e, rw d.0 (accepted_as c.degree-n.ensures f).1, d.1)
+    let f = accepted-one (omega arith) (sym c.check_one.ensures ∙ c.in_ok-check_one.was) in
+    rw (c.in_ok-c.ensures.1, c.new.ensures) (accepted_as c.degree-n.ensures f).1
 
 pub returns : goal.returns
 returns c =
-    let k = rw c.made_ready.ensures.0 at c.changed.ensures in
+    let (p, m, a, b, l) = c.in_ok-c.ensures in
+    let k = rw (m, c.new.ensures, a, b, c.degree-n.ensures) at c.changed.ensures in
     rw (← c.modulus-m.ensures)
-    (changed (passed_on c.check_one-o.ensures c.refuses.ensures c.if-refuses.false) (c.proper-t.ensures.yes (not-false _ c.if-not-t.false)).0 k.reduced (rw c.degree-n.ensures at k.changed) refl)
+    (changed (sym c.check_one.ensures ∙ c.in_ok-check_one.was) (rw c.new.ensures at p) k.reduced k.changed refl)

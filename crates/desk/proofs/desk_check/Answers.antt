@@ -1,6 +1,6 @@
 use mathlib.Core.Path.{◌∙◌, ap}
 use Rattle.desk.specs.Face.{told}
-use Rattle.record.specs.declared.Checked.{Checked}
+use Rattle.record.specs.Record.{Checked}
 use Rattle.desk.proofs.desk_check.Goals as goal
 
 pub returns : goal.returns

@@ -10,7 +10,7 @@ use Rattle.refusal.specs.Refusal.{Answered}
 use Rattle.polynomial.specs.Checks.{check_one}
 use Rattle.area.specs.Area.{most_parts, area_words}
 use Rattle.polynomial.proofs.Acceptance.{accepted-modulus, accepted-one}
-use Rattle.chain.specs.declared.Chained.{Chained}
+use Rattle.chain.specs.Chaining.{Chained}
 use Rattle.chain.specs.Chaining.{ChainFound, ChainOf}
 use Rattle.chain.proofs.Answering.{chain_given}
 use Rattle.listing.specs.Listing.{zero_area}

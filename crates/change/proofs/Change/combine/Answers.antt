@@ -1,33 +1,32 @@
-use mathlib.Core.Path.{ap, ◌∙◌}
-use borrow.Author.Tests.{not-true, not-false}
-use Rattle.change.specs.Changing.{unchanged, refused, first_improper, second_improper, combined}
-use Rattle.refusal.proofs.Outcomes.{refused_by, passed_on}
+use mathlib.Core.Path.{◌≡◌, refl, sym, ◌∙◌}
+use borrow.Author.Rules.{rules}
+use Rattle.std.specs.Prelude.{Err}
 use Rattle.polynomial.proofs.Acceptance.{accepted-modulus}
+use Rattle.change.specs.Changing.{refused, first_improper, second_improper, combined}
 use Rattle.change.proofs.Change.combine.Goals as goal
 
-pub returns-then-refuses : goal.returns-then-refuses
-returns-then-refuses c =
-    let (r, is, here) = refused_by c.check_modulus-o.ensures c.refuses.ensures c.if-refuses.true in
-    rw (← c.modulus-m.ensures) (refused is (c.unchanged.ensures ∙ ap unchanged here))
+pub returns-in_err-check_modulus : goal.returns-in_err-check_modulus
+returns-in_err-check_modulus c =
+    let e : c.from_residual.result ≡ Err c.in_err-check_modulus.field-0.0 = search rules in
+    rw (e, ← c.modulus-m.ensures) (refused (sym c.check_modulus.ensures ∙ c.in_err-check_modulus.was) refl)
 
-pub proper-one-requires : goal.proper-one-requires
-proper-one-requires c = accepted-modulus (passed_on c.check_modulus-o.ensures c.refuses.ensures c.if-refuses.false)
+pub new-d-requires : goal.new-d-requires
+new-d-requires c = accepted-modulus (sym c.check_modulus.ensures ∙ c.in_ok-check_modulus.was)
 
-pub returns-then-not-one : goal.returns-then-not-one
-returns-then-not-one c =
-    rw (← c.modulus-m.ensures) (first_improper (passed_on c.check_modulus-o.ensures c.refuses.ensures c.if-refuses.false) (c.proper-one.ensures.no (not-true _ c.if-not-one.true)) (c.unchanged-then-not-one.ensures ∙ ap unchanged c.improper.ensures))
+-- No. 8
+pub returns-in_err-tested : goal.returns-in_err-tested
+returns-in_err-tested c =
+    let (n, is) = c.in_err-tested.ensures in
+    let e : c.from_residual-in_err-tested.result ≡ Err c.in_err-tested.field-0.0 = search rules in
+    rw (e, is, ← c.modulus-m.ensures) (first_improper (sym c.check_modulus.ensures ∙ c.in_ok-check_modulus.was) (rw c.new-d.ensures at n) refl)
 
-pub proper-two-requires : goal.proper-two-requires
-proper-two-requires c = accepted-modulus (passed_on c.check_modulus-o.ensures c.refuses.ensures c.if-refuses.false)
-
-pub returns-then-not-two : goal.returns-then-not-two
-returns-then-not-two c =
-    rw (← c.modulus-m.ensures) (second_improper (passed_on c.check_modulus-o.ensures c.refuses.ensures c.if-refuses.false) (c.proper-one.ensures.yes (not-false _ c.if-not-one.false)).0 (c.proper-two.ensures.no (not-true _ c.if-not-two.true)) (c.unchanged-then-not-two.ensures ∙ ap unchanged c.improper-then-not-two.ensures))
-
-pub made_ready-requires : goal.made_ready-requires
-made_ready-requires c = accepted-modulus (passed_on c.check_modulus-o.ensures c.refuses.ensures c.if-refuses.false)
+pub returns-in_err-tested-2 : goal.returns-in_err-tested-2
+returns-in_err-tested-2 c =
+    let (n, is) = c.in_err-tested-2.ensures in
+    let e : c.from_residual-in_err-tested-2.result ≡ Err c.in_err-tested-2.field-0.0 = search rules in
+    rw (e, is, ← c.modulus-m.ensures) (second_improper (sym c.check_modulus.ensures ∙ c.in_ok-check_modulus.was) (rw c.new-d.ensures at c.in_ok-tested.ensures.0) (rw c.new-d.ensures at n) refl)
 
 pub returns : goal.returns
 returns c =
-    rw (← c.modulus-m.ensures)
-    (combined (passed_on c.check_modulus-o.ensures c.refuses.ensures c.if-refuses.false) (c.proper-one.ensures.yes (not-false _ c.if-not-one.false)).0 (c.proper-two.ensures.yes (not-false _ c.if-not-two.false)).0 (rw (c.combined.ensures, c.made_ready.ensures.0)))
+    rw (← c.modulus-m.ensures, ← c.new-d.ensures)
+    (combined (rw c.new-d.ensures (sym c.check_modulus.ensures ∙ c.in_ok-check_modulus.was)) c.in_ok-tested.ensures.0 c.in_ok-tested-2.ensures.0 (rw c.combined.ensures refl))

@@ -1,31 +1,32 @@
-use mathlib.Core.Path.{refl, ap, ◌∙◌}
-use borrow.Author.Tests.{not-true, not-false}
-use Rattle.change.specs.Changing.{unchanged, refused, not_proper, undone}
-use Rattle.refusal.proofs.Outcomes.{refused_by, passed_on}
+use mathlib.Core.Path.{◌≡◌, refl, sym, ◌∙◌}
+use borrow.Author.Rules.{rules}
+use Rattle.std.specs.Prelude.{Err}
 use Rattle.polynomial.proofs.Acceptance.{accepted-modulus}
+use Rattle.change.specs.Changing.{refused, not_proper, undone}
 use Rattle.change.proofs.Change.undo.Goals as goal
 
-pub returns-then-refuses : goal.returns-then-refuses
-returns-then-refuses c =
-    let (r, is, here) = refused_by c.check_modulus-o.ensures c.refuses.ensures c.if-refuses.true in
-    rw (← c.modulus-m.ensures) (refused is (c.unchanged.ensures ∙ ap unchanged here))
+pub returns-in_err-check_modulus : goal.returns-in_err-check_modulus
+returns-in_err-check_modulus c =
+    let e : c.from_residual.result ≡ Err c.in_err-check_modulus.field-0.0 = search rules in
+    rw (e, ← c.modulus-m.ensures) (refused (sym c.check_modulus.ensures ∙ c.in_err-check_modulus.was) refl)
 
-pub proper-t-requires : goal.proper-t-requires
-proper-t-requires c = accepted-modulus (passed_on c.check_modulus-o.ensures c.refuses.ensures c.if-refuses.false)
+pub new-requires : goal.new-requires
+new-requires c = accepted-modulus (sym c.check_modulus.ensures ∙ c.in_ok-check_modulus.was)
 
-pub returns-then-not-t : goal.returns-then-not-t
-returns-then-not-t c =
-    rw (← c.modulus-m.ensures) (not_proper (passed_on c.check_modulus-o.ensures c.refuses.ensures c.if-refuses.false) (c.proper-t.ensures.no (not-true _ c.if-not-t.true)) (c.unchanged-then-not-t.ensures ∙ ap unchanged c.improper.ensures))
-
-pub made_ready-requires : goal.made_ready-requires
-made_ready-requires c = accepted-modulus (passed_on c.check_modulus-o.ensures c.refuses.ensures c.if-refuses.false)
+-- No. 8
+pub returns-in_err-tested : goal.returns-in_err-tested
+returns-in_err-tested c =
+    let (n, is) = c.in_err-tested.ensures in
+    let e : c.from_residual-in_err-tested.result ≡ Err c.in_err-tested.field-0.0 = search rules in
+    rw (e, is, ← c.modulus-m.ensures) (not_proper (sym c.check_modulus.ensures ∙ c.in_ok-check_modulus.was) (rw c.new.ensures at n) refl)
 
 pub undone-requires : goal.undone-requires
 undone-requires c =
-    let (p, l, e) = c.proper-t.ensures.yes (not-false _ c.if-not-t.false) in
-    let d = c.made_ready.ensures in
-    (rw d.0 e, rw d.0 l, rw d.0 p.origin_below, d.1)
+    let (p, m, a, b, l) = c.in_ok-tested.ensures in
+    (rw m l, rw (m, b) p.origin_below)
 
 pub returns : goal.returns
 returns c =
-    rw (← c.modulus-m.ensures) (undone (passed_on c.check_modulus-o.ensures c.refuses.ensures c.if-refuses.false) (c.proper-t.ensures.yes (not-false _ c.if-not-t.false)).0 (rw c.made_ready.ensures.0 at c.undone.ensures) refl)
+    let (p, m, a, b, l) = c.in_ok-tested.ensures in
+    let d = rw (m, a, b, c.new.ensures) at c.undone.ensures in
+    rw (← c.modulus-m.ensures) (undone (sym c.check_modulus.ensures ∙ c.in_ok-check_modulus.was) (rw c.new.ensures at p) d refl)
