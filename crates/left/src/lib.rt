@@ -29,6 +29,7 @@ fn digits(p: &mut [u32], h: &[u32], s: usize, m: Divisor) -> bool
     requires { DivisionAsked m.number s h.now p.old }
     ensures { Digits m.number h.now s p.old p.new result }
 {
+    // Counted by hand: the last digit begins where it stops.
     let mut at = 0;
     while s < p.len() - at {
         if !digit(&mut p[at..], h, s, m) {
@@ -59,6 +60,7 @@ fn blocks(p: &mut [u32], h: &[u32], b: &[u32], k: usize, s: usize, m: Divisor) -
     ensures { Digits m.number h.now s p.old p.new result }
 {
     let w = k * s;
+    // Counted by hand: the others begin where it stops.
     let mut at = 0;
     while w < p.len() - at {
         if !block(&mut p[at..], h, b, k, s, m) {

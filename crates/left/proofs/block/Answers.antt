@@ -1,9 +1,7 @@
-use mathlib.Core.Path.{refl, sym}
+use mathlib.Core.Path.{refl}
 use Prim.Native.Nat.{◌+◌, ◌*◌, ◌-◌}
 use native.Mathlib.Nat.{mul-le-mul_right}
 use native.Mathlib.Omega.{arith}
-use lib.Seq.{length-take-le}
-use Rattle.algebra.specs.Polynomial.{terms, limit}
 use Rattle.division.proofs.Asked.{remainder_asked, raised_asked}
 use Rattle.left.proofs.Expanding.{lowest_digits, top_flat, lowest_top}
 use Rattle.left.proofs.block.Goals as goal
@@ -17,12 +15,6 @@ pub returns-then-not-is_constant : goal.returns-then-not-is_constant
 returns-then-not-is_constant c =
     let p = c.requires in
     lowest_top _ p.0 p.1 refl p.3 c.divide.ensures _ (omega (arith, mul-le-mul_right {m = 1} c.args.s p.2)) c.is_constant.ensures c.if-not-is_constant.true
-
-pub slice_bounds-digits-end : goal.slice_bounds-digits-end
-slice_bounds-digits-end c = omega (arith, c.divide.ensures.long, c.requires.3, c.requires.0.above_zero, mul-le-mul_right {m = 1} c.args.s c.requires.2)
-
-pub slice_bounds-digits-end-2 : goal.slice_bounds-digits-end-2
-slice_bounds-digits-end-2 c = sym (length-take-le _ _ (omega (arith, c.divide.ensures.long, c.requires.3, c.requires.0.above_zero, mul-le-mul_right {m = 1} c.args.s c.requires.2)))
 
 pub digits-requires : goal.digits-requires
 digits-requires c =

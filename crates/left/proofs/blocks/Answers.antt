@@ -1,7 +1,6 @@
 use mathlib.Core.Path.{refl}
 use native.Mathlib.Omega.{arith}
 use lib.ListN.{length-drop}
-use Rattle.algebra.specs.Polynomial.{terms, limit}
 use Rattle.division.proofs.Pieces.{lent, returned}
 use Rattle.division.proofs.Asked.{raised_asked}
 use Rattle.left.proofs.Expanding.{reached-none, reached-more, reached-no, reached_last, reached_asked}

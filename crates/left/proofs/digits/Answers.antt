@@ -1,7 +1,5 @@
 use native.Mathlib.Omega.{arith}
-use borrow.Author.Rules.{rules}
 use lib.ListN.{length-drop, take-append-drop}
-use Rattle.algebra.specs.Polynomial.{terms, limit}
 use Rattle.division.proofs.Pieces.{lent, returned}
 use Rattle.left.proofs.Expanding.{reached-none, reached-more, reached-no, reached_last, reached_asked, flat_digits}
 use Rattle.left.proofs.digits.Goals as goal
@@ -26,9 +24,6 @@ loop-p-preserved c =
     let d = c.requires in
     let l = c.loop-p in
     rw (returned l.at l.p _) (reached-more d.above_zero l.invariant 1 (omega arith) (omega (arith, c.loop-p-test.true)) (rw (lent l.at l.p) at c.digit.ensures) c.if-not-digit.false)
-
-pub is_constant-requires : goal.is_constant-requires
-is_constant-requires c = search rules
 
 pub returns : goal.returns
 returns c =

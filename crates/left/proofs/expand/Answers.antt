@@ -1,7 +1,7 @@
-use mathlib.Core.Path.{refl, sym}
+use mathlib.Core.Path.{refl}
 use native.Mathlib.Nat as N
 use native.Mathlib.Omega.{arith}
-use Rattle.algebra.specs.Polynomial.{terms, limit}
+use Rattle.algebra.specs.Polynomial.{terms}
 use Rattle.division.proofs.Pieces.{lent, returned}
 use Rattle.left.proofs.Expanding.{digits_long, lowest_no, reached-first, reached_last, reached_asked}
 use Rattle.left.proofs.expand.Goals as goal
@@ -14,35 +14,12 @@ digit-requires c =
 pub returns-then-not-digit : goal.returns-then-not-digit
 returns-then-not-digit c = lowest_no c.digit.ensures c.if-not-digit.true
 
-pub slice_bounds-raise-end : goal.slice_bounds-raise-end
-unfolding terms limit
-slice_bounds-raise-end c = sym c.requires.0.right.reduced.long
-
 pub raise-requires : goal.raise-requires
 unfolding terms
 raise-requires c =
     let p = c.requires in
     let k = c.at_once-k.ensures in
     (p.0.right, refl, k.0, omega (arith, p.0.inside, p.1, N.mul-le-mul_right c.args.s k.1))
-
-pub slice_bounds-blocks-count : goal.slice_bounds-blocks-count
-slice_bounds-blocks-count c =
-    let p = c.requires in
-    omega (arith, digits_long p.2 p.1, c.digit.ensures.long)
-
-pub slice_bounds-blocks-start : goal.slice_bounds-blocks-start
-slice_bounds-blocks-start c =
-    let p = c.requires in
-    omega (arith, digits_long p.2 p.1, c.digit.ensures.long)
-
-pub slice_bounds-blocks-end : goal.slice_bounds-blocks-end
-slice_bounds-blocks-end c =
-    let p = c.requires in
-    omega (arith, digits_long p.2 p.1, c.digit.ensures.long)
-
-pub slice_bounds-blocks-end-3 : goal.slice_bounds-blocks-end-3
-unfolding terms limit
-slice_bounds-blocks-end-3 c = sym c.raise.ensures.held.reduced.long
 
 pub blocks-requires : goal.blocks-requires
 blocks-requires c =

@@ -1,15 +1,9 @@
-use mathlib.Core.Path.{refl, sym, ap, ◌∙◌}
+use mathlib.Core.Path.{refl, ap, ◌∙◌}
 use native.Mathlib.Omega.{arith}
-use lib.Seq.{length-take-le}
-use Rattle.algebra.specs.Polynomial.{terms, limit}
 use Rattle.polynomial.specs.Answers.{nothing}
 use Rattle.left.specs.Left.{none, found}
 use Rattle.left.proofs.Found.{asked_division, asked_long, digits-terms, digits-past, digits-none, digits-found}
 use Rattle.left.proofs.left_part.Goals as goal
-
-pub slice_bounds-expand-end : goal.slice_bounds-expand-end
-unfolding terms
-slice_bounds-expand-end c = sym (length-take-le _ _ (omega (arith, c.requires.whole.within, c.requires.whole.reduced.long)))
 
 pub expand-requires : goal.expand-requires
 expand-requires c =
@@ -19,10 +13,6 @@ expand-requires c =
 -- No. 7: a digit is no constant
 pub returns-then-not-expand : goal.returns-then-not-expand
 returns-then-not-expand c = none (digits-none c.requires c.expand.ensures c.if-not-expand.true) (c.nothing.ensures ∙ ap nothing c.refused.ensures)
-
-pub slice_bounds-constants-end : goal.slice_bounds-constants-end
-unfolding terms limit
-slice_bounds-constants-end c = sym (digits-terms c.requires c.expand.ensures)
 
 pub constants-requires : goal.constants-requires
 constants-requires c =
