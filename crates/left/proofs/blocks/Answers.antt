@@ -1,28 +1,19 @@
 use mathlib.Core.Path.{refl}
 use native.Mathlib.Omega.{arith}
 use lib.ListN.{length-drop}
-use Rattle.algebra.specs.Polynomial.{terms, limit}
 use Rattle.division.proofs.Pieces.{lent, returned}
 use Rattle.division.proofs.Asked.{raised_asked}
 use Rattle.left.proofs.Expanding.{reached-none, reached-more, reached-no, reached_last, reached_asked}
 use Rattle.left.proofs.blocks.Goals as goal
 
-pub overflow_mul-w : goal.overflow_mul-w
-unfolding terms limit
-overflow_mul-w c = omega (arith, c.requires.1.held.within)
-
 pub loop-p-init : goal.loop-p-init
 loop-p-init c = (refl, reached-none c.requires.0)
-
-pub overflow_sub-p : goal.overflow_sub-p
-unfolding terms limit
-overflow_sub-p c = omega (arith, c.loop-p.invariant.1.inside)
 
 pub block-requires : goal.block-requires
 block-requires c =
     let p = c.requires in
     let l = c.loop-p in
-    rw (lent l.at l.p) (reached_asked p.0.above_zero l.invariant.1 p.0, p.1, p.2, omega (arith, length-drop l.at l.p, c.loop-p-test.true), p.3)
+    rw (lent l.at l.p) (reached_asked p.0.above_zero l.invariant.1 p.0, p.1, p.2, omega (arith, length-drop l.at l.p, c.loop-p-test.true))
 
 pub returns-then-not-block : goal.returns-then-not-block
 returns-then-not-block c =
@@ -46,7 +37,7 @@ pub digits-requires : goal.digits-requires
 digits-requires c =
     let p = c.requires in
     let l = c.loop-p in
-    rw (lent l.at l.p) (reached_asked p.0.above_zero l.invariant.1 p.0, p.3)
+    rw (lent l.at l.p) (reached_asked p.0.above_zero l.invariant.1 p.0)
 
 pub returns : goal.returns
 returns c =

@@ -10,17 +10,13 @@ use Rattle.report.proofs.all_digits.Goals as goal
 pub loop-i-init : goal.loop-i-init
 loop-i-init c = (omega arith, omega (arith, c.requires.0.some), expanded_none c.requires.0)
 
-pub overflow_mul-at : goal.overflow_mul-at
-unfolding terms limit
-overflow_mul-at c = omega (arith, c.loop-i.invariant.2.long, c.requires.0.inside)
-
 pub digits_at_once-requires : goal.digits_at_once-requires
 digits_at_once-requires c =
     let p = c.requires in
     let a = c.args in
     let l = c.loop-i in
     let e = digits-end l.i a.k a.r a.s (omega (arith, c.loop-i-test.true)) in
-    rw (lent (l.i * a.s) l.p) (expanded_asked p.0 l.invariant.2 l.invariant.1, p.1, p.2, omega (arith, p.3, l.invariant.2.long, length-drop (l.i * a.s) l.p), p.4)
+    rw (lent (l.i * a.s) l.p) (expanded_asked p.0 l.invariant.2 l.invariant.1, p.1, p.2, omega (arith, p.3, l.invariant.2.long, length-drop (l.i * a.s) l.p))
 
 pub loop-i-smaller : goal.loop-i-smaller
 unfolding terms limit
@@ -35,17 +31,13 @@ loop-i-preserved c =
     let x = expanded_more p.0 l.invariant.2 (omega (arith, l.invariant.1)) (rw (lent (l.i * a.s) l.p) at c.digits_at_once.ensures) in
     rw (returned (l.i * a.s) l.p _) (omega (arith, c.loop-i-test.true), omega (arith, p.3, x.long), x)
 
-pub overflow_mul-at-2 : goal.overflow_mul-at-2
-unfolding terms limit
-overflow_mul-at-2 c = omega (arith, c.loop-i.invariant.2.long, c.requires.0.inside)
-
 pub each_digit-requires : goal.each_digit-requires
 each_digit-requires c =
     let p = c.requires in
     let a = c.args in
     let l = c.loop-i in
     let e = digits-end l.i (a.r - l.i) a.r a.s (omega (arith, l.invariant.0)) in
-    rw (lent (l.i * a.s) l.p) (expanded_asked p.0 l.invariant.2 l.invariant.1, omega (arith, p.3, l.invariant.2.long, length-drop (l.i * a.s) l.p), p.4)
+    rw (lent (l.i * a.s) l.p) (expanded_asked p.0 l.invariant.2 l.invariant.1, omega (arith, p.3, l.invariant.2.long, length-drop (l.i * a.s) l.p))
 
 pub returns : goal.returns
 returns c =
