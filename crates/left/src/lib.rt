@@ -7,13 +7,14 @@
 ghost use Rattle.std.specs.Prelude.{◌≡◌, ℕ, ◌+◌, ◌*◌, ◌≤◌, ◌<◌, length};
 ghost use Rattle.algebra.specs.Number.{table};
 ghost use Rattle.algebra.specs.Polynomial.{coef, limit, terms, Held};
+ghost use Rattle.polynomial.specs.Answers.{answer_of};
 ghost use Rattle.division.specs.Division.{DivisionAsked, Raised};
 ghost use Rattle.left.specs.Digits.{Lowest, Digits};
 ghost use Rattle.left.specs.Left.{LeftAsked, LeftAnswer};
 
-use polynomial::{Answer, Coefficients, TERMS};
+use polynomial::{Coefficients, TERMS};
 use reciprocal::Divisor;
-use refusal::{Concerns, Outcome, Reason};
+use refusal::{Reason, Refusal};
 
 // The lowest digit of p, and above it the quotient; "no" if the digit is no constant.
 fn digit(p: &mut [u32], h: &[u32], s: usize, m: Divisor) -> bool
@@ -105,16 +106,13 @@ pub fn left_part(
     r: usize,
     s: usize,
     m: Divisor,
-) -> Answer
+) -> Result<Coefficients, Refusal>
     requires { LeftAsked m.number n r s f h }
-    ensures { LeftAnswer m.number f r h result }
+    ensures { LeftAnswer m.number f r h (answer_of result) }
 {
     let mut a = f;
     if !expand(&mut a[..n + 1], &h, r, s, m) {
-        return polynomial::nothing(refusal::refused(Concerns::Neither, Reason::NoPair));
+        return Err(Reason::NoPair.into());
     }
-    Answer {
-        outcome: Outcome::Answered,
-        polynomial: constants(&a, r, s),
-    }
+    Ok(constants(&a, r, s))
 }

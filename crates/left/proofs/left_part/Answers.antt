@@ -12,7 +12,7 @@ expand-requires c =
 
 -- No. 7: a digit is no constant
 pub returns-then-not-expand : goal.returns-then-not-expand
-returns-then-not-expand c = none (digits-none c.requires c.expand.ensures c.if-not-expand.true) (c.nothing.ensures ∙ ap nothing c.refused.ensures)
+returns-then-not-expand c = none (digits-none c.requires c.expand.ensures c.if-not-expand.true) (rw c.into.ensures refl)
 
 pub constants-requires : goal.constants-requires
 constants-requires c =
