@@ -25,10 +25,8 @@ use Rattle.algebra.proofs.Coefficients.{after-monic}
 use Rattle.algebra.proofs.Reduction.{reduced-reduced, reduced-same, degree-monic}
 use Rattle.algebra.proofs.Factors.{coprime-invertible}
 use Rattle.algebra.proofs.Pairs as P
-use Rattle.refusal.specs.Refusal.{is_refused}
-use Rattle.refusal.specs.Refusal.{Outcome}
 use Rattle.refusal.specs.Refusal.{Answered}
-use Rattle.refusal.proofs.Outcomes.{never, answered, then_both, refuse-answered}
+use Rattle.refusal.proofs.Outcomes.{never, then_both, refuse-answered}
 use Rattle.polynomial.specs.Checks.{check_one, check_two, Accepted}
 use Rattle.polynomial.specs.Answers.{nothing, no_parts}
 use Rattle.polynomial.specs.Degrees.{Degrees}
@@ -115,9 +113,9 @@ module _ {m : ℕ} {f : List ℕ} {r : ℕ} (lf : length f ≡ terms) where
       (a, (fits-degrees _ _ (not-false _ (refuse-answered _ _ _ six)) (degree-fits a)).1)
 
   -- and what the search is given then
-  pub split_given : {n : ℕ} {o : Outcome} → o ≡ check_split m f r → is_refused o ≡ false → n ≡ degree f → SplitAsked m n r (n / r) f
-  split_given e fine n-is =
-      let (a, d) = split_accepted (sym e ∙ answered fine) in
+  pub split_given : {n : ℕ} → check_split m f r ≡ Answered → n ≡ degree f → SplitAsked m n r (n / r) f
+  split_given e n-is =
+      let (a, d) = split_accepted e in
       let (w, held, two) = accepted_as n-is a in
       record { modulus = w; degrees = rw n-is d; whole = held }
 
@@ -128,8 +126,8 @@ module _ {m : ℕ} {f : List ℕ} {r : ℕ} (lf : length f ≡ terms) where
   split_determined (of.answered e a) (of.answered k b) = let (t, d) = split_accepted e in one_split (accepted-above t) d a b
 
 -- the modulus, too
-pub split_modulus : {m : ℕ} (f : List ℕ) (r : ℕ) {o : Outcome} → length f ≡ terms → o ≡ check_split m f r → is_refused o ≡ false → Modulus m
-split_modulus f r long e fine = accepted-modulus (split_accepted {f = f} {r = r} long (sym e ∙ answered fine)).0.modulus
+pub split_modulus : {m : ℕ} (f : List ℕ) (r : ℕ) → length f ≡ terms → check_split m f r ≡ Answered → Modulus m
+split_modulus f r long e = accepted-modulus (split_accepted {f = f} {r = r} long e).0.modulus
 
 -- composing and splitting
 module _ {m : ℕ} {g h : List ℕ} (ag : Accepted m g) (ah : Accepted m h) (fit : degree g * degree h ≤ limit) where

@@ -10,13 +10,11 @@
 --   root_none, root_open             no pair at all where the root says no; what is given where it does not
 --   root_apart, report_told          the quick question: a no of the root, and what the digits tell
 use mathlib.Core.Path.{◌≡◌, refl, sym, ap, ◌∙◌}
-use mathlib.Core.Bool.{Bool, true, false, true≢false}
+use mathlib.Core.Bool.{Bool, false}
 use mathlib.Core.List.{List}
 use Prim.Native.Nat.{ℕ, ◌*◌, ◌-◌, ◌%◌, ◌<◌}
 use native.Mathlib.Nat as N
 use native.Mathlib.Omega.{arith}
-use lib.Dec.{eqb}
-use borrow.Author.Tests.{ne_eqb}
 use Rattle.algebra.specs.Number.{Coprime, Modulus}
 use Rattle.algebra.specs.Polynomial.{limit, terms, Monic, Held}
 use Rattle.algebra.specs.Pair.{NormalPair, NoPair, Report}
@@ -27,11 +25,10 @@ use Rattle.algebra.proofs.Pairs.{no-normal-pair}
 use Rattle.algebra.proofs.Report.{report_above, report_refutes}
 use Rattle.algebra.proofs.RightPart as R
 use Rattle.polynomial.specs.Degrees.{Degrees}
-use Rattle.refusal.specs.Refusal.{is_refused}
-use Rattle.refusal.specs.Refusal.{Answered}
-use Rattle.polynomial.specs.Answers.{nothing, no_parts}
-use Rattle.polynomial.specs.Answers.{Answer}
-use Rattle.polynomial.specs.Answers.{Parts}
+use Rattle.refusal.specs.Refusal.{Answered, Refused}
+use Rattle.refusal.specs.declared.Refusal.{Refusal}
+use Rattle.refusal.proofs.Outcomes.{never}
+use Rattle.polynomial.specs.Answers.{Answer, nothing, no_parts}
 use Rattle.left.specs.Left.{LeftPart, NoLeft, LeftAsked, LeftAnswer}
 use Rattle.report.specs.Report.{LeftReport}
 use Rattle.report.specs.Report as digits
@@ -41,7 +38,7 @@ use Rattle.right.specs.Right.{RightAsked, RightPart, Root}
 use Rattle.right.proofs.Columns.{left_twice, right_twice}
 use Rattle.pair.specs.Pairing.{SplitAsked, Opened, SplitAnswer}
 use Rattle.pair.specs.Pairing as of
-use Rattle.pair.specs.Asking.{QuickAnswer}
+use Rattle.pair.specs.Asking.{QuickAnswer, a_yes, a_no}
 use Rattle.pair.specs.Asking as quick
 
 pub forced-pair : {m r s : ℕ} {f g h : List ℕ} → RightPart m f r s h → LeftPart m f r h g → NormalPair m f r s g h
@@ -79,16 +76,16 @@ forced-none {m} {n} {r} {s} {f} {h} two d c right none = (no-normal-pair pos rp 
     go g k p = none g p.pair.left (p.pair.whole ⨾ after_same m pos (same_refl g) (R.forced_unique m pos rp sp (coprime-invertible m pos c) (R.pair-forced m pos rp p.pair p.normal) right.forced))
 
 -- what the last comparison says of the forced right part answers the split
-module _ {m n r s : ℕ} {f h : List ℕ} {a : Answer} (two : 1 < m) (d : Degrees n r s) (c : Coprime r m) (right : RightPart m f r s h) where
-  pub forced-refused : {x : Parts} → is_refused a.outcome ≡ true → x ≡ no_parts a.outcome → LeftAnswer m f r h a → SplitAnswer m f r s x
+module _ {m n r s : ℕ} {f h : List ℕ} (two : 1 < m) (d : Degrees n r s) (c : Coprime r m) (right : RightPart m f r s h) where
+  pub forced-refused : (e : Refusal) → LeftAnswer m f r h (nothing (Refused e)) → SplitAnswer m f r s (no_parts (Refused e))
   unfolding nothing
-  forced-refused t e (left.none none k) = of.none c (forced-none two d c right none) (e ∙ ap (λ (a : Answer). no_parts a.outcome) k)
-  forced-refused t e (left.found g k) = absurd (true≢false (sym t ∙ ap (λ (a : Answer). is_refused a.outcome) k))
+  forced-refused e (left.none none k) = of.none c (forced-none two d c right none) (ap (λ (a : Answer). no_parts a.outcome) k)
+  forced-refused e (left.found g k) = absurd (never refl (ap (λ (a : Answer). a.outcome) k))
 
-  pub forced-found : is_refused a.outcome ≡ false → LeftAnswer m f r h a → SplitAnswer m f r s (record { outcome = a.outcome; left = a.polynomial; right = h })
+  pub forced-found : {g : List ℕ} → LeftAnswer m f r h (record { outcome = Answered; polynomial = g }) → SplitAnswer m f r s (record { outcome = Answered; left = g; right = h })
   unfolding nothing
-  forced-found t (left.none none k) = absurd (true≢false (sym (ap (λ (a : Answer). is_refused a.outcome) k) ∙ t))
-  forced-found t (left.found g k) = of.found c (forced-pair right g) (rw k)
+  forced-found (left.none none k) = absurd (never refl (sym (ap (λ (a : Answer). a.outcome) k)))
+  forced-found (left.found g k) = of.found c (forced-pair right g) (ap (λ (a : Answer). record { outcome = a.outcome; left = a.polynomial; right = h }) k)
 
 -- n·v = 1 and r·s = n
 pub inverse_left : {m n : ℕ} (r s : ℕ) {u : ℕ} (v : ℕ) → 1 < m → r * s ≡ n → n * v % m ≡ 1 → u ≡ v * s % m → u * r % m ≡ 1 % m
@@ -122,10 +119,13 @@ pub asked_left : {m n r s : ℕ} {f h : List ℕ} → Modulus m → Degrees n r 
 unfolding terms
 asked_left a d whole h = record { modulus = a; degrees = d; whole = whole; right = record { reduced = h.reduced; monic = h.forced.monic; within = omega (arith, (fits_below d).1) } }
 
--- what the digits tell
-pub report_told : {m r s k : ℕ} {f h : List ℕ} → 0 < m → RightPart m f r s h → LeftReport m f r s h k → QuickAnswer m f r s (record { outcome = Answered; splits = eqb k 0; power = k })
-report_told pos right (digits.composes {g = g} mg w e) = quick.composes {g = g} (record { left = mg; right = right.forced.monic; whole = w }) (rw e refl)
-report_told {m} {r} {s} {k} {f} {h} pos right (digits.differs {g = g} L d) = quick.differs {k = k} R (ap (λ (b : Bool). record { outcome = Answered; splits = b; power = k }) (ne_eqb k 0 (λ e. report_above pos R 0 (e ∙ sym (N.zero-mul s)))))
+-- what the digits tell: no power is 0
+pub report_told : {m r s k : ℕ} {f h : List ℕ} → 0 < m → RightPart m f r s h → LeftReport m f r s h k
+    → (k ≡ 0 → QuickAnswer m f r s a_yes) × ((k ≡ 0 → ⊥) → QuickAnswer m f r s (a_no k))
+report_told {m} {r} {s} {k} {f} {h} pos right (digits.composes {g = g} mg w e) =
+    (λ z. quick.composes {g = g} (record { left = mg; right = right.forced.monic; whole = w }) refl, λ n. absurd (n e))
+report_told {m} {r} {s} {k} {f} {h} pos right (digits.differs {g = g} L d) =
+    (λ z. absurd (report_above pos R 0 (z ∙ sym (N.zero-mul s))), λ n. quick.differs {k = k} R refl)
   where
     R : Report m r s f k
     R = record { g = g; h = h; forced = record { right = right.forced; left = L }; differs = d }

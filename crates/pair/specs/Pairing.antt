@@ -10,7 +10,7 @@
 --   Splits m f r x           x answers: f split at the left degree r
 --   SplitAsked m n r s f     what a split at r and s is given: f of degree n = r·s
 --   Opened m n r s f t       what is given where the root in t leaves a pair open
-use Rattle.std.specs.Prelude.{◌≡◌, Bool, not, ◌&&◌, List, ℕ, ◌/◌, ◌%◌, leb, eqb}
+use Rattle.std.specs.Prelude.{◌≡◌, Ok, Err, Bool, not, ◌&&◌, List, ℕ, ◌/◌, ◌%◌, leb, eqb}
 use Rattle.algebra.specs.Number.{Coprime, Modulus}
 use Rattle.algebra.specs.Polynomial.{degree, Held}
 use Rattle.algebra.specs.Pair.{NormalPair}
@@ -37,8 +37,8 @@ fits n d = leb 2 d && eqb (n % d) 0 && leb 2 (n / d)
 
 -- what is returned beside an outcome
 abbrev pub beside : Outcome → ℕ → List ℕ → List ℕ → Answer
-beside Answered m g h = record { outcome = Answered; polynomial = composition m g h }
-beside (Refused r) m g h = nothing (Refused r)
+beside (Ok x) m g h = record { outcome = Answered; polynomial = composition m g h }
+beside (Err r) m g h = nothing (Refused r)
 
 -- 1; 2, 3, 4 for g and h; 10; else g(h) modulo m
 unfoldable pub compose : ℕ → List ℕ → List ℕ → Answer

@@ -4,66 +4,48 @@
 ghost use Rattle.std.specs.Prelude.{◌≡◌, min, ◌+◌, ◌*◌, ◌%◌, ◌<◌};
 ghost use Rattle.polynomial.specs.Moduli.{modulus};
 ghost use Rattle.polynomial.specs.Checks.{Measured};
-ghost use Rattle.binomial.specs.Triangle.{rows, triangle, HasRow};
-ghost use Rattle.reciprocal.specs.Ready.{Ready};
+ghost use Rattle.polynomial.specs.Answers.{answer_of, parts_of};
+ghost use Rattle.binomial.specs.Triangle.{rows, HasRow};
 ghost use Rattle.right.specs.Rows.{Space};
 ghost use Rattle.right.specs.Right.{Root};
 ghost use Rattle.pair.specs.Pairing.{fits as fits_of, compose as compose_of, LeftPartOf, check_split, Splits, SplitAsked, Opened, SplitAnswer};
-ghost use Rattle.pair.specs.Asking.{unasked as unasked_of, QuickOf, QuickAnswer};
+ghost use Rattle.pair.specs.Asking.{verdict_of, QuickOf, QuickAnswer};
 
-use binomial::{ENTRIES, ROWS};
-use inverse::Inverse;
-use polynomial::{Answer, Coefficients, Parts};
+use binomial::{ROWS, Table};
+use polynomial::{Coefficients, Pair};
 use reciprocal::Divisor;
-use refusal::{Concerns, Outcome, Reason};
+use refusal::{Reason, Refusal};
 
 // Whether a part of a polynomial of degree n can have degree d: d divides n, and d and n / d are at least 2.
 fn fits(n: usize, d: usize) -> bool
     ensures { result ≡ fits_of n d }
 {
-    if d < 2 {
-        return false;
-    }
-    if n % d != 0 {
-        return false;
-    }
-    2 <= n / d
+    2 <= d && n % d == 0 && 2 <= n / d
 }
 
 // The operation: g(h).
-pub fn compose(m: u32, g: Coefficients, h: Coefficients) -> Answer
-    ensures { result ≡ compose_of (modulus m) g h }
+pub fn compose(m: u32, g: Coefficients, h: Coefficients) -> Result<Coefficients, Refusal>
+    ensures { answer_of result ≡ compose_of (modulus m) g h }
 {
     let m = polynomial::modulus(m);
     let r = polynomial::degree(&g);
     let s = polynomial::degree(&h);
-    let o = polynomial::check_pair(m, &g, r, &h, s);
-    if refusal::refuses(o) {
-        return polynomial::nothing(o);
-    }
-    let d = reciprocal::made_ready(m);
-    Answer {
-        outcome: Outcome::Answered,
-        polynomial: composition::compose(&g, &h, r, s, d),
-    }
+    polynomial::check_pair(m, &g, r, &h, s)?;
+    Ok(composition::compose(&g, &h, r, s, Divisor::new(m)))
 }
 
 // The operation: the left part of f for a given h, whether h(0) is zero or not.
-pub fn left_part(m: u32, f: Coefficients, h: Coefficients) -> Answer
-    ensures { LeftPartOf (modulus m) f h result }
+pub fn left_part(m: u32, f: Coefficients, h: Coefficients) -> Result<Coefficients, Refusal>
+    ensures { LeftPartOf (modulus m) f h (answer_of result) }
 {
     let m = polynomial::modulus(m);
     let n = polynomial::degree(&f);
     let s = polynomial::degree(&h);
-    let o = polynomial::check_two(m, &f, n, &h, s);
-    if refusal::refuses(o) {
-        return polynomial::nothing(o);
-    }
+    polynomial::check_two(m, &f, n, &h, s)?;
     if !fits(n, s) {
-        return polynomial::nothing(refusal::refused(Concerns::Neither, Reason::Fit));
+        return Err(Reason::Fit.into());
     }
-    let d = reciprocal::made_ready(m);
-    left::left_part(f, h, n, n / s, s, d)
+    left::left_part(f, h, n, n / s, s, Divisor::new(m))
 }
 
 // Whether the root of f, worked out in t, leaves a pair at r and s open. v is the inverse of n, so that of r is s * v: the chain
@@ -75,49 +57,49 @@ pub fn is_open(
     r: usize,
     s: usize,
     v: u32,
-    table: &[u64; ENTRIES],
+    table: &Table,
     m: Divisor,
 ) -> bool
-    requires { SplitAsked m.number n r s f.now × (table.now ≡ triangle rows) × (n * v % m.number ≡ 1) × Space m.number t.old × Ready m }
+    requires { SplitAsked m.number n r s f.now × (n * v % m.number ≡ 1) × Space m.number t.old }
     ensures { Root m.number f.now r s t.new result }
 {
     let u = residue::multiply(v, s as u32, m);
-    let at = binomial::start(r);
-    let end = at + r + 1;
-    let rows = &table[..];
-    right::root(t, f, n, r, s, u, &rows[at..end], m)
+    right::root(t, f, n, r, s, u, table.row(r), m)
 }
 
 // The split where the root in t leaves it open: its right part is there, and its left part is looked for.
-pub fn split_open(f: Coefficients, t: &[u32], n: usize, r: usize, s: usize, m: Divisor) -> Parts
-    requires { Opened m.number n r s f t.now × Ready m }
-    ensures { SplitAnswer m.number f r s result }
+pub fn split_open(
+    f: Coefficients,
+    t: &[u32],
+    n: usize,
+    r: usize,
+    s: usize,
+    m: Divisor,
+) -> Result<Pair, Refusal>
+    requires { Opened m.number n r s f t.now }
+    ensures { SplitAnswer m.number f r s (parts_of result) }
 {
-    let h = right::upside(t, s);
-    let a = left::left_part(f, h, n, r, s, m);
-    let compared = a.outcome;
-    if refusal::refuses(compared) {
-        return polynomial::no_parts(compared);
-    }
-    let g = a.polynomial;
-    Parts {
-        outcome: compared,
-        left: g,
-        right: h,
-    }
+    let right = right::upside(t, s);
+    let left = left::left_part(f, right, n, r, s, m)?;
+    Ok(Pair { left, right })
 }
 
 // The split at the left degree r and the right degree s, with row r of the binomials lent.
-fn split_by(f: Coefficients, n: usize, r: usize, s: usize, row: &[u64], m: Divisor) -> Parts
-    requires { SplitAsked m.number n r s f × HasRow r (min r (s + 1)) row.now × Ready m }
-    ensures { SplitAnswer m.number f r s result }
+fn split_by(
+    f: Coefficients,
+    n: usize,
+    r: usize,
+    s: usize,
+    row: &[u64],
+    m: Divisor,
+) -> Result<Pair, Refusal>
+    requires { SplitAsked m.number n r s f × HasRow r (min r (s + 1)) row.now }
+    ensures { SplitAnswer m.number f r s (parts_of result) }
 {
-    let Inverse::Of(u) = inverse::invert(r as u64, m.number) else {
-        return polynomial::no_parts(refusal::refused(Concerns::Neither, Reason::Factor));
-    };
+    let u = inverse::invert(r as u64, m.number)?;
     let mut t = [0; right::WORDS];
     if !right::root(&mut t, &f, n, r, s, u, row, m) {
-        return polynomial::no_parts(refusal::refused(Concerns::Neither, Reason::NoPair));
+        return Err(Reason::NoPair.into());
     }
     split_open(f, &t, n, r, s, m)
 }
@@ -128,16 +110,13 @@ pub fn split_at(
     n: usize,
     r: usize,
     s: usize,
-    table: &[u64; ENTRIES],
+    table: &Table,
     m: Divisor,
-) -> Parts
-    requires { SplitAsked m.number n r s f × (table.now ≡ triangle rows) × Ready m }
-    ensures { SplitAnswer m.number f r s result }
+) -> Result<Pair, Refusal>
+    requires { SplitAsked m.number n r s f }
+    ensures { SplitAnswer m.number f r s (parts_of result) }
 {
-    let at = binomial::start(r);
-    let end = at + r + 1;
-    let rows = &table[..];
-    split_by(f, n, r, s, &rows[at..end], m)
+    split_by(f, n, r, s, table.row(r), m)
 }
 
 // Row r of the binomials, as far as the root at r and s wants it: one split is no reason to write out the table.
@@ -145,96 +124,66 @@ fn row_for(r: usize, s: usize) -> [u64; ROWS]
     requires { (r < rows) × (s < rows) }
     ensures { HasRow r (min r (s + 1)) result }
 {
-    binomial::row(r, polynomial::smaller(r, s + 1))
+    binomial::row(r, r.min(s + 1))
 }
 
 // 1, 2, 3, 4; 6: what a split at r refuses before it looks for a pair. n is the degree of f.
-fn check_split(m: u64, f: &[u32], n: usize, r: usize) -> Outcome
+fn check_split(m: u64, f: &[u32], n: usize, r: usize) -> Result<(), Refusal>
     requires { Measured n f.now }
     ensures { result ≡ check_split m f.now r }
 {
-    let o = polynomial::check_one(m, f, n);
-    if refusal::refuses(o) {
-        return o;
+    polynomial::check_one(m, f, n)?;
+    if !fits(n, r) {
+        return Err(Reason::Fit.into());
     }
-    if fits(n, r) {
-        return o;
-    }
-    refusal::refused(Concerns::Neither, Reason::Fit)
+    Ok(())
 }
 
 // The operation: f split at the left degree r.
-pub fn split(m: u32, f: Coefficients, r: usize) -> Parts
-    ensures { Splits (modulus m) f r result }
+pub fn split(m: u32, f: Coefficients, r: usize) -> Result<Pair, Refusal>
+    ensures { Splits (modulus m) f r (parts_of result) }
 {
     let m = polynomial::modulus(m);
     let n = polynomial::degree(&f);
-    let o = check_split(m, &f, n, r);
-    if refusal::refuses(o) {
-        return polynomial::no_parts(o);
-    }
-    let d = reciprocal::made_ready(m);
+    check_split(m, &f, n, r)?;
     let s = n / r;
     let row = row_for(r, s);
-    split_by(f, n, r, s, &row, d)
+    split_by(f, n, r, s, &row, Divisor::new(m))
 }
 
-// What the quick question answers: whether f splits, and if not, the highest power at which the forced pair, composed, and f differ.
-#[derive(Drop)]
-pub struct Verdict {
-    pub outcome: Outcome,
-    pub splits: bool,
-    pub power: usize,
-}
-
-// Zeros beside a refusal.
-fn unasked(outcome: Outcome) -> Verdict
-    ensures { result ≡ unasked_of outcome }
-{
-    Verdict {
-        outcome,
-        splits: false,
-        power: 0,
-    }
-}
-
-// The quick question by the inverse u of r: the root says most nos, and all digits the others.
-fn report(f: Coefficients, n: usize, r: usize, s: usize, u: u32, row: &[u64], m: Divisor) -> Verdict
-    requires { SplitAsked m.number n r s f × HasRow r (min r (s + 1)) row.now × (r * u % m.number ≡ 1) × Ready m }
-    ensures { QuickAnswer m.number f r s result }
+// The quick question by the inverse u of r: the root says most nos, and all digits the others. What differs is the highest power at
+// which the forced pair, composed, and f do; nothing if f splits.
+fn report(
+    f: Coefficients,
+    n: usize,
+    r: usize,
+    s: usize,
+    u: u32,
+    row: &[u64],
+    m: Divisor,
+) -> Option<usize>
+    requires { SplitAsked m.number n r s f × HasRow r (min r (s + 1)) row.now × (r * u % m.number ≡ 1) }
+    ensures { QuickAnswer m.number f r s (verdict_of (Ok result)) }
 {
     let mut t = [0; right::WORDS];
     if !right::root(&mut t, &f, n, r, s, u, row, m) {
-        return Verdict {
-            outcome: Outcome::Answered,
-            splits: false,
-            power: n - s - 1,
-        };
+        return Some(n - s - 1);
     }
     let h = right::upside(&t, s);
     let power = report::report(f, h, n, r, s, m);
-    Verdict {
-        outcome: Outcome::Answered,
-        splits: power == 0,
-        power,
-    }
+    if power == 0 { None } else { Some(power) }
 }
 
-// The operation: whether f splits at the left degree r, without the pair.
-pub fn quick(m: u32, f: Coefficients, r: usize) -> Verdict
-    ensures { QuickOf (modulus m) f r result }
+// The operation: whether f splits at the left degree r, without the pair: nothing if it does, and if not the highest power at which the
+// forced pair, composed, and f differ.
+pub fn quick(m: u32, f: Coefficients, r: usize) -> Result<Option<usize>, Refusal>
+    ensures { QuickOf (modulus m) f r (verdict_of result) }
 {
     let m = polynomial::modulus(m);
     let n = polynomial::degree(&f);
-    let o = check_split(m, &f, n, r);
-    if refusal::refuses(o) {
-        return unasked(o);
-    }
-    let d = reciprocal::made_ready(m);
+    check_split(m, &f, n, r)?;
+    let u = inverse::invert(r as u64, m)?;
     let s = n / r;
     let row = row_for(r, s);
-    match inverse::invert(r as u64, m) {
-        Inverse::Of(u) => report(f, n, r, s, u, &row, d),
-        Inverse::Shared(_) => unasked(refusal::refused(Concerns::Neither, Reason::Factor)),
-    }
+    Ok(report(f, n, r, s, u, &row, Divisor::new(m)))
 }

@@ -1,15 +1,19 @@
+use mathlib.Core.Path.{sym, ◌∙◌}
 use borrow.Author.Tests.{le-leb, lt-leb, eq-eqb, ne_eqb}
 use Rattle.pair.specs.Pairing.{fits}
+use Rattle.pair.proofs.fits.Goals.{then-d-ge2, else-d-ge2}
 use Rattle.pair.proofs.fits.Goals as goal
 
-pub returns-then-d-lt2 : goal.returns-then-d-lt2
+pub returns-then-n-d-eq0 : goal.returns-then-n-d-eq0
 unfolding fits
-returns-then-d-lt2 c = simp (lt-leb _ _ c.if-d-lt2.true)
+returns-then-n-d-eq0 c = elim c.if-d-ge2.branch [
+    then-d-ge2 w ↦ simp (le-leb _ _ w.if-d-ge2.true, ← w.value-is, c.if-n-d-eq0.true)
+    | else-d-ge2 w ↦ let e = lt-leb _ _ w.if-d-ge2.false in cc (e, w.value-is, c.if-n-d-eq0.true)
+]
 
-pub returns-then-n-d-ne0 : goal.returns-then-n-d-ne0
+pub returns-else-n-d-eq0 : goal.returns-else-n-d-eq0
 unfolding fits
-returns-then-n-d-ne0 c = simp (le-leb _ _ c.if-d-lt2.false, ne_eqb _ _ c.if-n-d-ne0.true)
-
-pub returns : goal.returns
-unfolding fits
-returns c = simp (le-leb _ _ c.if-d-lt2.false, eq-eqb _ _ c.if-n-d-ne0.false)
+returns-else-n-d-eq0 c = elim c.if-d-ge2.branch [
+    then-d-ge2 w ↦ simp (le-leb _ _ w.if-d-ge2.true, ← w.value-is, c.if-n-d-eq0.false)
+    | else-d-ge2 w ↦ w.value-is ∙ simp (lt-leb _ _ w.if-d-ge2.false)
+]

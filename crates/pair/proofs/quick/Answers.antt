@@ -1,47 +1,56 @@
-use mathlib.Core.Path.{sym, ◌∙◌}
+use mathlib.Core.Path.{◌≡◌, refl, sym, ◌∙◌}
 use native.Mathlib.Omega.{arith}
+use borrow.Author.Rules.{rules}
+use Rattle.std.specs.Prelude.{Err}
+use Rattle.refusal.specs.Refusal.{naming_none}
+use Rattle.refusal.specs.declared.Reason.TheVariants.{Factor}
 use Rattle.algebra.specs.Polynomial.{limit, terms}
 use Rattle.inverse.proofs.Inverses.{inverse-coprime, shared_not_coprime}
-use Rattle.pair.proofs.Answering.{quick_refused, quick_shared, quick_told}
+use Rattle.pair.specs.Asking.{refused, shared}
+use Rattle.pair.proofs.Answering.{quick_told}
 use Rattle.pair.proofs.Determined.{split_modulus, split_given}
 use Rattle.pair.proofs.Forcing.{below_rows}
 use Rattle.pair.proofs.quick.Goals as goal
 
-pub check_split-o-requires : goal.check_split-o-requires
+pub check_split-requires : goal.check_split-requires
 unfolding terms limit
-check_split-o-requires c = record { long = omega arith; is = c.degree-n.ensures }
+check_split-requires c = record { long = omega arith; is = c.degree-n.ensures }
 
-pub returns-then-refuses : goal.returns-then-refuses
-returns-then-refuses c = rw (← c.modulus-m.ensures) (quick_refused _ _ _ c.check_split-o.ensures (sym c.refuses.ensures ∙ c.if-refuses.true) c.unasked.ensures)
+pub returns-in_err-check_split : goal.returns-in_err-check_split
+returns-in_err-check_split c =
+    let e : c.from_residual.result ≡ Err c.in_err-check_split.field-0.0 = search rules in
+    rw (e, ← c.modulus-m.ensures) (refused (sym c.check_split.ensures ∙ c.in_err-check_split.was) refl)
 
 -- the modulus passed No. 1
-pub made_ready-d-requires : goal.made_ready-d-requires
+pub invert-requires : goal.invert-requires
 unfolding terms limit
-made_ready-d-requires c = split_modulus _ _ (omega arith) c.check_split-o.ensures (sym c.refuses.ensures ∙ c.if-refuses.false)
+invert-requires c = split_modulus _ _ (omega arith) (sym c.check_split.ensures ∙ c.in_ok-check_split.was)
+
+-- No. 5
+pub returns-in_err-u : goal.returns-in_err-u
+returns-in_err-u c =
+    let e : c.from_residual-in_err-u.result ≡ Err (naming_none Factor) = search rules in
+    rw (e, ← c.modulus-m.ensures) (shared (sym c.check_split.ensures ∙ c.in_ok-check_split.was) (shared_not_coprime c.in_err-u.ensures) refl)
 
 -- a left degree that fits is not 0
 pub nonzero_div-s : goal.nonzero_div-s
 unfolding terms limit
-nonzero_div-s c = let p = split_given (omega arith) c.check_split-o.ensures (sym c.refuses.ensures ∙ c.if-refuses.false) c.degree-n.ensures in omega (arith, p.degrees.two_left)
+nonzero_div-s c = let p = split_given (omega arith) (sym c.check_split.ensures ∙ c.in_ok-check_split.was) c.degree-n.ensures in omega (arith, p.degrees.two_left)
 
 pub row_for-row-requires : goal.row_for-row-requires
 unfolding terms limit
-row_for-row-requires c = below_rows (split_given (omega arith) c.check_split-o.ensures (sym c.refuses.ensures ∙ c.if-refuses.false) c.degree-n.ensures).degrees
+row_for-row-requires c = below_rows (split_given (omega arith) (sym c.check_split.ensures ∙ c.in_ok-check_split.was) c.degree-n.ensures).degrees
+
+pub new-requires : goal.new-requires
+unfolding terms limit
+new-requires c = split_modulus _ _ (omega arith) (sym c.check_split.ensures ∙ c.in_ok-check_split.was)
 
 pub report-requires : goal.report-requires
 unfolding terms limit
 report-requires c =
-    let i = rw c.in-Of.is at c.invert.ensures in
-    let d = c.made_ready-d.ensures in
-    (rw d.0 (split_given (omega arith) c.check_split-o.ensures (sym c.refuses.ensures ∙ c.if-refuses.false) c.degree-n.ensures), c.row_for-row.ensures, rw d.0 i.1, d.1)
+    (rw c.new.ensures (split_given (omega arith) (sym c.check_split.ensures ∙ c.in_ok-check_split.was) c.degree-n.ensures), c.row_for-row.ensures, rw c.new.ensures c.in_ok-u.ensures.1)
 
-pub returns-in-Of : goal.returns-in-Of
-returns-in-Of c =
-    let i = rw c.in-Of.is at c.invert.ensures in
-    rw (← c.modulus-m.ensures) (quick_told _ _ _ c.check_split-o.ensures c.degree-n.ensures (sym c.refuses.ensures ∙ c.if-refuses.false) (inverse-coprime i) (rw c.made_ready-d.ensures.0 at c.report.ensures))
-
--- No. 5
-pub returns-in-Shared : goal.returns-in-Shared
-returns-in-Shared c =
+pub returns : goal.returns
+returns c =
     rw (← c.modulus-m.ensures)
-    (quick_shared _ _ _ c.check_split-o.ensures (sym c.refuses.ensures ∙ c.if-refuses.false) (shared_not_coprime (rw c.in-Shared.is at c.invert.ensures)) c.refused.ensures c.unasked-in-Shared.ensures)
+    (quick_told _ _ _ (sym c.check_split.ensures ∙ c.in_ok-check_split.was) c.degree-n.ensures (inverse-coprime c.in_ok-u.ensures) (rw c.new.ensures at c.report.ensures))

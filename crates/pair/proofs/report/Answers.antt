@@ -15,7 +15,7 @@ root-requires c =
     let p = c.requires in
     let a = c.args in
     let unit = ap (λ (x : ℕ). x % a.m.number) (mul_comm a.u a.r) ∙ p.2 ∙ sym (mod-eq_of_lt p.0.modulus.above_one) in
-    (asked_root p.0 unit, p.1, room-none (omega (arith, p.0.modulus.above_one)), p.3)
+    (asked_root p.0 unit, p.1, room-none (omega (arith, p.0.modulus.above_one)))
 
 pub overflow_sub-result : goal.overflow_sub-result
 overflow_sub-result c = omega (arith, right_twice c.requires.0.degrees)
@@ -34,9 +34,12 @@ upside-h-requires c =
 
 pub report-power-requires : goal.report-power-requires
 report-power-requires c =
-    let p = c.requires in
-    (asked_left p.0.modulus p.0.degrees p.0.whole (c.root.ensures.part c.upside-h.ensures), p.3)
+    let p = c.requires.0 in
+    asked_left p.modulus p.degrees p.whole (c.root.ensures.part c.upside-h.ensures)
 
 -- the digits tell
-pub returns : goal.returns
-returns c = let p = c.requires.0 in report_told (omega (arith, p.modulus.above_one)) (c.root.ensures.part c.upside-h.ensures) c.report-power.ensures
+pub returns-then-power-eq0 : goal.returns-then-power-eq0
+returns-then-power-eq0 c = (report_told (omega (arith, c.requires.0.modulus.above_one)) (c.root.ensures.part c.upside-h.ensures) c.report-power.ensures).0 c.if-power-eq0.true
+
+pub returns-else-power-eq0 : goal.returns-else-power-eq0
+returns-else-power-eq0 c = (report_told (omega (arith, c.requires.0.modulus.above_one)) (c.root.ensures.part c.upside-h.ensures) c.report-power.ensures).1 c.if-power-eq0.false

@@ -5,6 +5,3 @@ use Rattle.pair.proofs.row_for.Goals as goal
 pub overflow_add-s : goal.overflow_add-s
 unfolding rows
 overflow_add-s c = omega arith
-
-pub returns : goal.returns
-returns c = rw (← c.smaller.ensures) c.row.ensures
