@@ -17,7 +17,7 @@ use Prim.Native.Nat.{ℕ, suc, ◌+◌, ◌-◌, ◌*◌, ◌%◌, ◌≤◌, �
 use native.Mathlib.Nat as N
 use native.Mathlib.Omega.{arith}
 use native.Mathlib.Decide.{dec_lt}
-use lib.ListN.{length, set, replicate, take, drop, length-replicate, get_or-eq_default}
+use lib.ListN.{length, set, replicate, take, length-replicate, get_or-eq_default}
 use lib.Seq.{get_or-set_other, get_or-take, length-take-le}
 use Rattle.algebra.specs.Number.{sum, table}
 use Rattle.algebra.specs.Polynomial.{coef, plus, scaled, times, limit, terms, reduced, degree}
@@ -42,9 +42,9 @@ measured_ends {n} {f} c =
     }
 
 -- what stands below where it ends has the same degree
-pub ending_degree : {d n : ℕ} {f : List ℕ} → Ends d f → n ≡ degree (take (d + 1 - 0) (drop 0 f)) → n ≡ degree f
+pub ending_degree : {d n : ℕ} {f : List ℕ} → Ends d f → n ≡ degree (take (d + 1) f) → n ≡ degree f
 unfolding terms
-ending_degree {d} {n} {f} e is = is ∙ ap (λ (k : ℕ). degree (take k f)) (N.sub-zero (d + 1)) ∙ degree-same (take (d + 1) f) f (λ i. go i (dec_lt i (d + 1)))
+ending_degree {d} {n} {f} e is = is ∙ degree-same (take (d + 1) f) f (λ i. go i (dec_lt i (d + 1)))
   where
     go : (i : ℕ) → Dec (i < d + 1) → coef (take (d + 1) f) i ≡ coef f i
     go i (yes l) = get_or-take (d + 1) f i 0 l

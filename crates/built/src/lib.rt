@@ -1,217 +1,155 @@
-// A polynomial as it is built from a text: sums, products and powers modulo m, and whether one of them went above the limit.
+// A polynomial as it is built from a text: sums, products and powers modulo m, and none once one of them went above the limit.
 // A product goes as far as the degrees of its factors, so the degree is kept beside the coefficients.
 #![tactic(auto)]
 
-ghost use Rattle.std.specs.Prelude.{◌≡◌, true, false, ◌+◌, ◌-◌, ◌*◌, ◌%◌, ◌≤◌, min, max};
-ghost use Rattle.algebra.specs.Polynomial.{coef, plus, scaled, times, limit, degree as degree_of};
-ghost use Rattle.reciprocal.specs.Ready.{Ready};
 ghost use Rattle.polynomial.specs.Checks.{Measured};
-ghost use Rattle.composition.specs.Composition.{Ends};
-ghost use Rattle.built.specs.Built.{single as single_of, Low, built as built_of, above as above_of, Settles, Joins, Shifts, Powers, Raises};
 
 use polynomial::{Coefficients, LIMIT, TERMS};
 use reciprocal::Divisor;
 
+// A polynomial within the limit, and its degree.
 #[derive(Drop)]
 pub struct Built {
-    pub over: bool,
     pub degree: usize,
     pub coefficients: Coefficients,
+    pub ghost measured: { Measured degree coefficients },
 }
 
-// Something built on the way has a coefficient above the limit.
-pub fn above() -> Built
-    ensures { result ≡ above_of }
-{
-    Built {
-        over: true,
-        degree: 0,
-        coefficients: [0; TERMS],
-    }
-}
+impl Built {
+    ghost use Rattle.std.specs.Prelude.{◌≡◌, true, false, ◌+◌, ◌%◌, ◌≤◌};
+    ghost use Rattle.algebra.specs.Polynomial.{coef, plus, scaled, times, limit, reduced};
+    ghost use Rattle.composition.specs.Composition.{Ends};
+    ghost use Rattle.built.specs.Built.{single as single_of, Low, Settles, Joins, Shifts, Powers, Raises};
 
-// The degree of c, which ends at x^top.
-fn degree_to(c: &[u32], top: usize) -> usize
-    requires { Ends top c.now }
-    ensures { result ≡ degree_of c.now }
-{
-    let end = top + 1;
-    polynomial::degree(&c[0..end])
-}
-
-// c * x^k.
-pub fn single(c: u64, k: usize, m: Divisor) -> Built
-    requires { Ready m × (k ≤ limit) }
-    ensures { result ≡ built_of m.number (single_of c k) }
-{
-    let mut x = [0; TERMS];
-    x[k] = reciprocal::remainder(c, m);
-    let degree = degree_to(&x, k);
-    Built {
-        over: false,
-        degree,
-        coefficients: x,
-    }
-}
-
-// The larger of two numbers.
-fn larger(a: usize, b: usize) -> usize
-    ensures { result ≡ max a b }
-{
-    if a < b { b } else { a }
-}
-
-// x + k * y, of two polynomials that end at x^top, and a number.
-fn mixed(x: &[u32], y: &[u32], top: usize, k: u32, m: Divisor) -> Built
-    requires { Ready m × Ends top x.now × Ends top y.now }
-    ensures { result ≡ built_of m.number (plus x.now (scaled k y.now)) }
-{
-    let mut c = [0; TERMS];
-    let end = top + 1;
-    for i in 0..end {
-        c[i] = inner::two_products(1, x[i], k, y[i], m);
-    }
-    let degree = degree_to(&c, top);
-    Built {
-        over: false,
-        degree,
-        coefficients: c,
-    }
-}
-
-// a + k * b.
-pub fn combine(a: Built, b: Built, k: u32, m: Divisor) -> Built
-    requires { Ready m × Measured a.degree a.coefficients × Measured b.degree b.coefficients }
-    ensures { Joins m.number (plus a.coefficients (scaled k b.coefficients)) a b result }
-{
-    if a.over {
-        return above();
-    }
-    if b.over {
-        return above();
-    }
-    let top = larger(a.degree, b.degree);
-    mixed(&a.coefficients, &b.coefficients, top, k, m)
-}
-
-// The larger of k - s and 0.
-fn less(k: usize, s: usize) -> usize
-    ensures { result ≡ k - s }
-{
-    if k < s { 0 } else { k - s }
-}
-
-// The coefficient of x^k in the product of x and y, of degrees n and s.
-fn coefficient(x: &[u32], n: usize, y: &[u32], s: usize, k: usize, m: Divisor) -> u32
-    requires { Ready m × Measured n x.now × Measured s y.now × (k ≤ n + s) }
-    ensures { result ≡ coef (times x.now y.now) k % m.number }
-{
-    inner::inner_product(x, y, k, less(k, s), polynomial::smaller(k, n) + 1, m)
-}
-
-// Whether a coefficient of the product above the limit is not zero; from the top, where most such products show it.
-fn spills(x: &[u32], n: usize, y: &[u32], s: usize, m: Divisor) -> bool
-    requires { Ready m × Measured n x.now × Measured s y.now }
-    ensures no { result ≡ false → Low m.number (times x.now y.now) }
-    ensures yes { result ≡ true → Low m.number (times x.now y.now) → ⊥ }
-{
-    let mut k = n + s;
-    while LIMIT < k {
-        if coefficient(x, n, y, s, k, m) != 0 {
-            return true;
+    // c, which ends at x^top.
+    fn ending(c: Coefficients, top: usize) -> Built
+        requires { Ends top c }
+        ensures { result.coefficients ≡ c }
+    {
+        let degree = polynomial::degree(&c[..top + 1]);
+        Built {
+            degree,
+            coefficients: c,
         }
-        k -= 1;
     }
-    false
-}
 
-// The product up to x^top, where it ends, or the limit does.
-fn product(x: &[u32], n: usize, y: &[u32], s: usize, top: usize, m: Divisor) -> Built
-    requires { Ready m × Measured n x.now × Measured s y.now × (top ≡ min (n + s) limit) }
-    ensures { result ≡ built_of m.number (times x.now y.now) }
-{
-    let mut c = [0; TERMS];
-    let end = top + 1;
-    for k in 0..end {
-        c[k] = coefficient(x, n, y, s, k, m);
+    // c * x^k.
+    pub fn single(c: u64, k: usize, m: Divisor) -> Built
+        requires { k ≤ limit }
+        ensures { result.coefficients ≡ reduced m.number (single_of c k) }
+    {
+        let mut x = [0; TERMS];
+        x[k] = m.remainder(c);
+        Built::ending(x, k)
     }
-    let degree = degree_to(&c, top);
-    Built {
-        over: false,
-        degree,
-        coefficients: c,
-    }
-}
 
-// x * y, of degrees n and s.
-fn whole(x: &[u32], n: usize, y: &[u32], s: usize, m: Divisor) -> Built
-    requires { Ready m × Measured n x.now × Measured s y.now }
-    ensures { Settles m.number (times x.now y.now) result }
-{
-    if spills(x, n, y, s, m) {
-        return above();
+    // x + k * y.
+    fn mixed(&self, y: &Built, k: u32, m: Divisor) -> Built
+        ensures { result.coefficients ≡ reduced m.number (plus self.now.coefficients (scaled k y.now.coefficients)) }
+    {
+        let top = self.degree.max(y.degree);
+        let mut c = [0; TERMS];
+        for i in 0..top + 1 {
+            c[i] = inner::two_products(1, self.coefficients[i], k, y.coefficients[i], m);
+        }
+        Built::ending(c, top)
     }
-    product(x, n, y, s, polynomial::smaller(n + s, LIMIT), m)
-}
 
-// a * b.
-pub fn multiply(a: Built, b: Built, m: Divisor) -> Built
-    requires { Ready m × Measured a.degree a.coefficients × Measured b.degree b.coefficients }
-    ensures { Joins m.number (times a.coefficients b.coefficients) a b result }
-{
-    if a.over {
-        return above();
+    // a + k * b.
+    pub fn combine(a: Option<Built>, b: Option<Built>, k: u32, m: Divisor) -> Option<Built>
+        ensures { Joins m.number (λ x y. plus x (scaled k y)) a b result }
+    {
+        let x = a?;
+        let y = b?;
+        Some(x.mixed(&y, k, m))
     }
-    if b.over {
-        return above();
-    }
-    whole(&a.coefficients, a.degree, &b.coefficients, b.degree, m)
-}
 
-// Whether x, of degree n, is a single term whose p-th power is within the limit.
-fn shifts(x: &[u32], n: usize, p: usize) -> bool
-    requires { Measured n x.now × (p ≤ limit) }
-    ensures { result ≡ true → Shifts n p x.now }
-{
-    if LIMIT < n * p {
-        return false;
+    // The coefficient of x^k in the product with y.
+    fn coefficient(&self, y: &Built, k: usize, m: Divisor) -> u32
+        requires { k ≤ self.now.degree + y.now.degree }
+        ensures { result ≡ coef (times self.now.coefficients y.now.coefficients) k % m.number }
+    {
+        let lo = k.saturating_sub(y.degree);
+        let hi = k.min(self.degree) + 1;
+        inner::inner_product(&self.coefficients, &y.coefficients, k, lo, hi, m)
     }
-    for i in 0..n {
-        if x[i] != 0 {
+
+    // Whether a coefficient of the product above the limit is not zero; from the top, where most such products show it.
+    fn spills(&self, y: &Built, m: Divisor) -> bool
+        ensures no { result ≡ false → Low m.number (times self.now.coefficients y.now.coefficients) }
+        ensures yes { result ≡ true → Low m.number (times self.now.coefficients y.now.coefficients) → ⊥ }
+    {
+        for k in (LIMIT + 1..self.degree + y.degree + 1).rev() {
+            if self.coefficient(y, k, m) != 0 {
+                return true;
+            }
+        }
+        false
+    }
+
+    // The product as far as it ends, or the limit does.
+    fn product(&self, y: &Built, m: Divisor) -> Built
+        ensures { result.coefficients ≡ reduced m.number (times self.now.coefficients y.now.coefficients) }
+    {
+        let top = (self.degree + y.degree).min(LIMIT);
+        let mut c = [0; TERMS];
+        for k in 0..top + 1 {
+            c[k] = self.coefficient(y, k, m);
+        }
+        Built::ending(c, top)
+    }
+
+    // The product with y, if it is within the limit.
+    fn whole(&self, y: &Built, m: Divisor) -> Option<Built>
+        ensures { Settles m.number (times self.now.coefficients y.now.coefficients) result }
+    {
+        if self.spills(y, m) {
+            return None;
+        }
+        Some(self.product(y, m))
+    }
+
+    // a * b.
+    pub fn multiply(a: Option<Built>, b: Option<Built>, m: Divisor) -> Option<Built>
+        ensures { Joins m.number times a b result }
+    {
+        let x = a?;
+        let y = b?;
+        x.whole(&y, m)
+    }
+
+    // Whether it is a single term whose p-th power is within the limit.
+    fn shifts(&self, p: usize) -> bool
+        requires { p ≤ limit }
+        ensures { result ≡ true → Shifts self.now.degree p self.now.coefficients }
+    {
+        if LIMIT < self.degree * p {
             return false;
         }
+        self.coefficients.iter().take(self.degree).all(|c| *c == 0)
     }
-    true
-}
 
-// x^p, a factor at a time, until a power goes above the limit.
-fn repeated(x: &[u32], n: usize, p: usize, m: Divisor) -> Built
-    requires { Ready m × Measured n x.now }
-    ensures { Powers m.number p x.now result }
-{
-    let mut v = single(1, 0, m);
-    for i in 0..p {
-        let y = v.coefficients;
-        v = whole(x, n, &y, v.degree, m);
-        if v.over {
-            return above();
+    // The p-th power, a factor at a time, until a power goes above the limit.
+    fn repeated(&self, p: usize, m: Divisor) -> Option<Built>
+        ensures { Powers m.number p self.now.coefficients result }
+    {
+        let mut v = Built::single(1, 0, m);
+        for i in 0..p {
+            v = self.whole(&v, m)?;
         }
+        Some(v)
     }
-    v
-}
 
-// a^p. The power of a single term is written at once.
-pub fn raise(a: Built, p: usize, m: Divisor) -> Built
-    requires { Ready m × Measured a.degree a.coefficients × (p ≤ limit) }
-    ensures { Raises m.number p a result }
-{
-    if a.over {
-        return above();
+    // a^p. The power of a single term is written at once.
+    pub fn raise(a: Option<Built>, p: usize, m: Divisor) -> Option<Built>
+        requires { p ≤ limit }
+        ensures { Raises m.number p a result }
+    {
+        let x = a?;
+        if x.shifts(p) {
+            let c = residue::power(x.coefficients[x.degree], p, m);
+            return Some(Built::single(u64::from(c), x.degree * p, m));
+        }
+        x.repeated(p, m)
     }
-    let x = a.coefficients;
-    let n = a.degree;
-    if shifts(&x, n, p) {
-        return single(residue::power(x[n], p, m) as u64, n * p, m);
-    }
-    repeated(&x, n, p, m)
 }

@@ -3,20 +3,21 @@
 --   Phrase                   what is read: a base, a factor, a product, a sum; Tree, start, past, means, Inside by it
 --   Only j q b               where b does not go on what j reads, it is a fault
 --   Done k j m s at d n v    a tree of k was read from place `at` to n, and what follows does not go on as j; v holds its polynomial
---   misread n                a fault, and nothing beside it
---   Fails k s at d r         the text from `at` on has a fault, which r tells
---   Sound r                  what was built has its degree beside it
---   Reads k j m s at d r     one or the other
+--   told e                   a fault, as the states tell it
+--   Fails k s at d e         the text from `at` on has the fault e
+--   Reads k j m s at d r     one or the other, which r is
+--   SignAt s k r             the sign at k, or none stands there
 --   Adds m sign a b v        v is a + b or a - b
-use Rattle.std.specs.Prelude.{◌≡◌, List, ℕ, ◌-◌, ◌≤◌, ◌<◌, length, drop, get_or}
+use Rattle.std.specs.Prelude.{◌≡◌, ◌⊎◌, Option, Some, None, Result, Ok, Err, List, ℕ, ◌-◌, ◌≤◌, ◌<◌, length, drop, get_or}
 use Rattle.built.specs.declared.Built.{Built}
 use Rattle.algebra.specs.Polynomial.{plus, scaled}
-use Rattle.polynomial.specs.Checks.{Measured}
-use Rattle.built.specs.Built.{BuiltAs, Joins, above}
+use Rattle.built.specs.Built.{BuiltAs, Joins}
+use Rattle.phrase.specs.declared.Fault.{Fault}
+use Rattle.phrase.specs.declared.Fault.TheVariants.{Spelling, Depth}
 use Rattle.phrase.specs.declared.Found.{Found}
 use Rattle.text.specs.Grammar.{Sum, Product, Factor, Base, plain, most_deep, plus_byte, minus_byte, times_byte, power_byte, close_byte}
 use Rattle.text.specs.Meaning.{meaning, meaning_product, meaning_factor, meaning_base, Within, WithinProduct, WithinFactor, WithinBase}
-use Rattle.text.specs.States.{Before, none, Frame, frame, Fault, spelling, deep, State, begin, expect, factor, stuck, step, run, at_product, at_sum, bad, verdict}
+use Rattle.text.specs.States.{Before, none, Frame, frame, Fault as State-fault, spelling, deep, State, begin, expect, factor, stuck, step, run, at_product, at_sum, bad, verdict}
 
 pub data Phrase : Type 0 where
   a_base : Phrase
@@ -66,7 +67,7 @@ Only a_product q b = (b ≡ plus_byte → ⊥) → (b ≡ minus_byte → ⊥) �
 Only a_factor q b = (b ≡ times_byte → ⊥) → (b ≡ plus_byte → ⊥) → (b ≡ minus_byte → ⊥) → (b ≡ close_byte → ⊥) → step most_deep q b ≡ stuck spelling
 Only a_base q b = (b ≡ power_byte → ⊥) → (b ≡ times_byte → ⊥) → (b ≡ plus_byte → ⊥) → (b ≡ minus_byte → ⊥) → (b ≡ close_byte → ⊥) → step most_deep q b ≡ stuck spelling
 
-pub record Done (k j : Phrase) (m : ℕ) (s : List ℕ) (at d next : ℕ) (v : Built) : Type 0 where
+pub record Done (k j : Phrase) (m : ℕ) (s : List ℕ) (at d next : ℕ) (v : Option Built) : Type 0 where
   pub tree : Tree k
   pub ahead : at < next
   pub inside : next ≤ length s
@@ -74,29 +75,25 @@ pub record Done (k j : Phrase) (m : ℕ) (s : List ℕ) (at d next : ℕ) (v : B
   pub leads : (st : List Frame) (f : Frame) → length st ≡ d → run most_deep (start k st f) (drop at s) ≡ run most_deep (past k st f tree) (drop next s)
   pub ends : (st : List Frame) (f : Frame) → next < length s → Only j (past k st f tree) (get_or s next 0)
 
--- as the readers hand it on
-abbrev pub fault_number : Fault → ℕ
-fault_number spelling = 1
-fault_number deep = 2
+-- the fault, as the states tell it
+abbrev pub told : Fault → State-fault
+told Spelling = spelling
+told Depth = deep
 
--- what is handed on with a fault
-abbrev pub misread : ℕ → Found
-misread n = record { fault = n; next = 0; built = above }
+abbrev pub Fails : Phrase → List ℕ → ℕ → ℕ → Fault → Type 0
+Fails k s at d e = (st : List Frame) (f : Frame) → length st ≡ d → verdict (run most_deep (start k st f) (drop at s)) ≡ bad (told e)
 
-pub record Fails (k : Phrase) (s : List ℕ) (at d : ℕ) (r : Found) : Type 0 where
-  pub fault : Fault
-  pub is : r ≡ misread (fault_number fault)
-  pub says : (st : List Frame) (f : Frame) → length st ≡ d → verdict (run most_deep (start k st f) (drop at s)) ≡ bad fault
+-- by what is handed on
+abbrev pub Reads : Phrase → Phrase → ℕ → List ℕ → ℕ → ℕ → Result Found Fault → Type 0
+Reads k j m s at d (Ok r) = Done k j m s at d r.next r.built
+Reads k j m s at d (Err e) = Fails k s at d e
 
--- what was built has its degree beside it
-abbrev pub Sound : Found → Type 0
-Sound r = Measured r.built.degree r.built.coefficients
-
-pub record Reads (k j : Phrase) (m : ℕ) (s : List ℕ) (at d : ℕ) (r : Found) : Type 0 where
-  pub fine : r.fault ≡ 0 → Done k j m s at d r.next r.built
-  pub fails : (r.fault ≡ 0 → ⊥) → Fails k s at d r
+-- the sign at k, or none stands there
+abbrev pub SignAt : List ℕ → ℕ → Option ℕ → Type 0
+SignAt s k None = k < length s → (get_or s k 0 ≡ plus_byte → ⊥) × (get_or s k 0 ≡ minus_byte → ⊥)
+SignAt s k (Some b) = (k < length s) × (get_or s k 0 ≡ b) × ((b ≡ plus_byte) ⊎ (b ≡ minus_byte))
 
 -- a + b or a - b by the sign between them
-pub record Adds (m sign : ℕ) (a b v : Built) : Type 0 where
-  pub sum : sign ≡ plus_byte → Joins m (plus a.coefficients (scaled 1 b.coefficients)) a b v
-  pub difference : (sign ≡ plus_byte → ⊥) → Joins m (plus a.coefficients (scaled (m - 1) b.coefficients)) a b v
+pub record Adds (m sign : ℕ) (a b v : Option Built) : Type 0 where
+  pub sum : sign ≡ plus_byte → Joins m (λ x y. plus x (scaled 1 y)) a b v
+  pub difference : (sign ≡ plus_byte → ⊥) → Joins m (λ x y. plus x (scaled (m - 1) y)) a b v

@@ -1,13 +1,18 @@
-use borrow.Author.Tests.{not-true, not-false}
+use mathlib.Core.Path.{◌≡◌}
 use native.Mathlib.Omega.{arith}
+use borrow.Author.Rules.{rules}
+use Rattle.std.specs.Prelude.{Some, None, Err}
+use Rattle.phrase.specs.declared.Fault.TheVariants.{Spelling}
 use Rattle.phrase.proofs.Readers as law
 use Rattle.phrase.proofs.numbered.Goals as goal
 
-pub returns-then-not-n : goal.returns-then-not-n
-returns-then-not-n c = λ d. law.base-unnumbered _ _ _ d c.failed.ensures (c.number-n.ensures.fails (not-true _ c.if-not-n.true)) c.requires.1 c.requires.2
-
-pub single-requires : goal.single-requires
-single-requires c = (c.requires.0, omega arith)
+pub returns-in_err-n : goal.returns-in_err-n
+returns-in_err-n c =
+    let o : c.number.result ≡ None = grind arith in
+    let q : c.from_residual.result ≡ Err Spelling = search rules in
+    rw q (λ d. law.base-unnumbered c.args.m.number _ _ d (rw o at c.number.ensures) c.requires.bracket c.requires.unknown)
 
 pub returns : goal.returns
-returns c = λ d. law.base-number _ _ _ d (c.number-n.ensures.fine (not-false _ c.if-not-n.false)) c.single.ensures
+returns c =
+    let o : c.number.result ≡ Some c.in_ok-n.n = grind arith in
+    λ d. law.base-number _ _ _ d (rw o at c.number.ensures) c.single.ensures

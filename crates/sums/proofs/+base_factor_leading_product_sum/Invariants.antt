@@ -18,14 +18,14 @@ decreases-product l = 5 * (length l.s.now - l.at) + 3
 abbrev pub decreases-sum : goal.decreases-sum
 decreases-sum l = 5 * (length l.s.now - l.at) + 5
 
-abbrev pub invariant-product-loop-k : goal.invariant-product-loop-k
-invariant-product-loop-k l = Done a_product a_factor l.m.number l.s l.at l.depth l.k l.v
+abbrev pub invariant-product-loop-m : goal.invariant-product-loop-m
+invariant-product-loop-m l = Done a_product a_factor l.m.number l.s l.at l.depth l.next l.built
 
-abbrev pub decreases-product-loop-k : goal.decreases-product-loop-k
-decreases-product-loop-k l = length l.s - l.k
+abbrev pub decreases-product-loop-m : goal.decreases-product-loop-m
+decreases-product-loop-m l = length l.s - l.next
 
-abbrev pub invariant-sum-loop-k : goal.invariant-sum-loop-k
-invariant-sum-loop-k l = Done a_sum a_product l.m.number l.s l.at l.depth l.k l.v
+abbrev pub invariant-sum-loop-sign : goal.invariant-sum-loop-sign
+invariant-sum-loop-sign l = Done a_sum a_product l.m.number l.s l.at l.depth l.next l.built
 
-abbrev pub decreases-sum-loop-k : goal.decreases-sum-loop-k
-decreases-sum-loop-k l = length l.s - l.k
+abbrev pub decreases-sum-loop-sign : goal.decreases-sum-loop-sign
+decreases-sum-loop-sign l = length l.s - l.next

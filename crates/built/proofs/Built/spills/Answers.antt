@@ -1,0 +1,26 @@
+use native.Mathlib.Omega.{arith}
+use Rattle.algebra.specs.Polynomial.{limit}
+use Rattle.built.proofs.Building as law
+use Rattle.built.proofs.Built.spills.Goals as goal
+
+pub overflow_add-k : goal.overflow_add-k
+unfolding limit
+overflow_add-k c = omega (arith, (law.measured_ends c.args.self.now.measured).inside, (law.measured_ends c.args.y.now.measured).inside)
+
+pub overflow_step-k : goal.overflow_step-k
+unfolding limit
+overflow_step-k c = omega (arith, (law.measured_ends c.args.self.now.measured).inside, (law.measured_ends c.args.y.now.measured).inside)
+
+pub loop-k-init : goal.loop-k-init
+loop-k-init c = (omega arith, law.searched_none _ _ _ _ (omega (arith, c.args.self.now.measured.is, c.args.y.now.measured.is)))
+
+pub returns-then-coefficient-ne0-clause-yes : goal.returns-then-coefficient-ne0-clause-yes
+unfolding limit
+returns-then-coefficient-ne0-clause-yes c = λ e. law.not_low (omega arith) c.coefficient.ensures c.if-coefficient-ne0.true
+
+pub loop-k-preserved : goal.loop-k-preserved
+loop-k-preserved c = (omega arith, law.searched_more (omega arith) c.coefficient.ensures c.if-coefficient-ne0.false c.loop-k.invariant.1)
+
+pub returns-clause-no : goal.returns-clause-no
+unfolding limit
+returns-clause-no c = λ e. law.searched_low (omega arith) c.loop-k.invariant.1
