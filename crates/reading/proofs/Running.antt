@@ -113,10 +113,10 @@ module _ (Makes : List ℕ → ℕ → List ℕ → Type 0) where
   ran_on {n = n} (of.ended e turn) f more k = let none : ◌≡◌ {A = ℕ} 0 n = cc in absurd (omega arith)
   ran_on (of.failed e) f more k = absurd (no_failure f e)
 
-  pub run-ended : {taken : ℕ} {xs ys : List ℕ} {r : Result ℕ Failed} → TurnOf Makes taken xs ys r → r ≡ Ok 0 → Ran taken xs → RunOf Makes (Ok tt)
-  run-ended (of.on {brought = brought} e some room turn) f k = let none : length brought ≡ 0 = cc in absurd (omega arith)
-  run-ended (of.ended e turn) f k = of.whole refl (of.ended k.run turn)
-  run-ended (of.failed e) f k = absurd (no_failure f e)
+  pub run-ended : {taken n : ℕ} {xs ys : List ℕ} {r : Result ℕ Failed} → TurnOf Makes taken xs ys r → r ≡ Ok n → n ≡ 0 → Ran taken xs → RunOf Makes (Ok tt)
+  run-ended {n = n} (of.on {brought = brought} e some room turn) f none k = let same : length brought ≡ n = cc in absurd (omega arith)
+  run-ended (of.ended e turn) f none k = of.whole refl (of.ended k.run turn)
+  run-ended (of.failed e) f none k = absurd (no_failure f e)
 
   pub run-failed : {taken : ℕ} {xs : List ℕ} {r : Result Unit Failed} → IsErr r → Ran taken xs → RunOf Makes r
   run-failed e k = of.failed e k.run
