@@ -56,7 +56,7 @@ fn sheets(s: &[u8], out: &mut [u8]) -> usize
     let n = records(s.len());
     for i in 0..n {
         let from = i * record::BYTES;
-        let end = s.len().min(from + record::BYTES);
+        let end = (from + record::BYTES).min(s.len());
         let at = i * sheet::BYTES;
         let to = at + sheet::BYTES;
         sheet_of(&s[from..end], &mut out[at..to]);
