@@ -3,13 +3,14 @@
 --   Progress                 what a loop over the records has listed, and what is left
 --   begun, turned, ended     before the first record; after one more; after the last
 use mathlib.Core.Path.{◌≡◌, refl, sym, ap, ◌∙◌}
-use mathlib.Core.Logic.{◌⊎◌, inl, inr, ⊎_elim}
 use mathlib.Core.List.{List, [], ◌∷◌, ◌++◌, append_assoc, append-nil}
 use Prim.Native.Nat.{ℕ, zero, suc, ◌+◌, ◌*◌, ◌-◌, ◌<◌, ◌≤◌, min}
+use native.Mathlib.Decide.{dec_le}
 use native.Mathlib.Omega.{arith}
-use native.Mathlib.Nat.{eq-or-lt_of_le, mul-suc, mul-le-mul_left}
-use lib.ListN.{length, take, drop, set, length-drop, drop_of_length-le}
-use lib.Seq.{sets, length-sets, drop-drop, take_all}
+use native.Mathlib.Nat.{add-zero, mul-suc, mul-le-mul_left}
+use lib.ListN.{length, take, drop, set, length-append, length-drop, take-append-drop, drop_of_length-le}
+use lib.Seq.{sets, take_all, take_at}
+use Rattle.std.proofs.lemmas.List.{append_cancel_left}
 use Rattle.algebra.specs.Polynomial.{terms, limit}
 use Rattle.digits.specs.Digits.{Put}
 use Rattle.digits.proofs.Text.{put-append, put-most}
@@ -42,99 +43,67 @@ module _ (xs : List ℕ) (w : ℕ) {t : List ℕ} {m : ℕ} {ys : List ℕ} {q :
   part-put : Put xs w t m (take w xs ++ (ys ++ drop (length xs - w) (drop w xs))) (w + q)
   part-put = record { stored = part_sets; end = omega (arith, p.end); within = omega (arith, p.within) }
 
--- ---- the record at a place
+-- ---- a record at the front
 
-take_either : (l : List ℕ) (m n : ℕ) → length l ≤ m → length l ≤ n → take m l ≡ take n l
-take_either l m n a b = take_all m l a ∙ sym (take_all n l b)
+-- the bytes of the next record, and those that are left
+module _ {b : List ℕ} (x r : List ℕ) (is : b ≡ x ++ r) (long : length x ≡ min record_bytes (length b)) where
+  first : take record_bytes b ≡ x
+  first = go (dec_le record_bytes (length b))
+    where
+      go : Dec (record_bytes ≤ length b) → take record_bytes b ≡ x
+      go (yes whole) = ap (take record_bytes) is ∙ take_at x r record_bytes (omega arith)
+      go (no short) =
+          take_all record_bytes b (omega arith) ∙ sym (take_all (length x) b (omega arith)) ∙ ap (take (length x)) is ∙ take_at x r (length x) refl
 
-drop_either : (l : List ℕ) (m n : ℕ) → length l ≤ m → length l ≤ n → drop m l ≡ drop n l
-drop_either l m n a b = drop_of_length-le l a ∙ sym (drop_of_length-le l b)
-
--- a whole record on, or where the bytes end
-record Ends (at n r : ℕ) : Type 0 where
-  after : at < r
-  short : r ≤ at + record_bytes
-  within : r ≤ n
-  full : r < n → r ≡ at + record_bytes
-
-ends : {at n r : ℕ} → at < n → r ≡ min (at + record_bytes) n → Ends at n r
-unfolding record_bytes terms limit
-ends l e = record { after = omega arith; short = omega arith; within = omega arith; full = λ h. omega arith }
-
-module _ (s : List ℕ) (at r : ℕ) (e : Ends at (length s) r) where
-  -- either the record is whole, or it ends where the bytes end
-  either : (r ≡ at + record_bytes) ⊎ (length s ≡ r)
-  either = ⊎_elim (λ q. inr (sym q)) (λ l. inl (e.full l)) (eq-or-lt_of_le e.within)
-
-  cut : take (r - at) (drop at s) ≡ take record_bytes (drop at s)
-  cut =
-      ⊎_elim
-      (λ q. let d : r - at ≡ record_bytes = omega arith in ap (λ (n : ℕ). take n (drop at s)) d)
-      (λ q. take_either (drop at s) (r - at) record_bytes (omega (arith, length-drop at s)) (omega (arith, length-drop at s, e.short)))
-      either
-
-  left : drop r s ≡ drop record_bytes (drop at s)
-  left =
-      ⊎_elim (λ q. ap (λ (n : ℕ). drop n s) q) (λ q. drop_either s r (at + record_bytes) (omega arith) (omega (arith, e.short))) either
-      ∙ sym (drop-drop record_bytes at s)
+  others : drop record_bytes b ≡ r
+  others = append_cancel_left x (drop record_bytes b) r (ap (λ (l : List ℕ). l ++ drop record_bytes b) (sym first) ∙ take-append-drop record_bytes b ∙ is)
 
 -- ---- the loop
 
--- the text so far, and that the lines of what is left complete it
-pub record Progress (s : List ℕ) (number : ℕ) (before : List ℕ) (at k w : ℕ) (now : List ℕ) : Type 0 where
-  pub inside : at ≤ length s
-  pub from : number ≤ k
-  pub passed : record_bytes * (k - number) < at + record_bytes
-  pub whole : at < length s → at ≡ record_bytes * (k - number)
-  pub long : length now ≡ length before
+-- the text of the first i records, and that the lines of what is left complete it
+pub record Progress (s : List ℕ) (number : ℕ) (before rest : List ℕ) (i w : ℕ) (now : List ℕ) : Type 0 where
+  pub passed : record_bytes * i < length s + record_bytes
+  pub left : 0 < length rest → record_bytes * i + length rest ≡ length s
   pub text : List ℕ
-  pub put : Put before 0 text (most_line * (k - number)) now w
-  pub rest : (u : List ℕ) → Lines (drop at s) k u → Lines s number (text ++ u)
+  pub put : Put before 0 text (most_line * i) now w
+  pub whole : (u : List ℕ) → Lines rest (number + i) u → Lines s number (text ++ u)
 
 module _ (s : List ℕ) (number : ℕ) (before : List ℕ) where
-  pub begun : Progress s number before 0 number 0 before
+  pub begun : Progress s number before s 0 0 before
   unfolding record_bytes terms limit
   begun = record {
-    inside = omega arith;
-    from = omega arith;
     passed = omega arith;
-    whole = λ _. omega arith;
-    long = refl;
+    left = λ _. omega arith;
     text = [];
     put = record { stored = refl; end = refl; within = omega arith };
-    rest = λ u l. l;
+    whole = λ u l. rw add-zero at l;
   }
 
-  module _ {at k w : ℕ} {now : List ℕ} (g : Progress s number before at k w now) where
-    pub ended : length s ≤ at → length s ≤ most_records * record_bytes → LinesIn s number before now w
+  module _ {rest : List ℕ} {i w : ℕ} {now : List ℕ} (g : Progress s number before rest i w now) where
+    pub ended : length rest ≡ 0 → length s ≤ most_records * record_bytes → LinesIn s number before now w
     unfolding most_lines most_records record_bytes terms limit
     ended h l =
         record {
           text = g.text;
-          lines = rw append-nil at (g.rest [] (none (drop_of_length-le s h) refl));
+          lines = rw append-nil at (g.whole [] (none (drop_of_length-le rest {i = 0} (omega arith)) refl));
           put = put-most (few most_line) g.put;
         }
       where
-        few : (n : ℕ) → n * (k - number) ≤ most_records * n
-        few n = let d : k - number ≤ most_records = omega (arith, g.passed, g.inside) in omega (arith, mul-le-mul_left n d)
+        few : (n : ℕ) → n * i ≤ most_records * n
+        few n = let d : i ≤ most_records = omega (arith, g.passed) in omega (arith, mul-le-mul_left n d)
 
     -- a turn
-    module _ (lt : at < length s) {r : ℕ} (is : r ≡ min (at + record_bytes) (length s)) {ys : List ℕ} {q : ℕ} (z : LineIn (take (r - at) (drop at s)) k (take (length now - w) (drop w now)) ys q) where
-      pub turned : Progress s number before r (k + 1) (w + q) (take w now ++ (ys ++ drop (length now - w) (drop w now)))
+    module _ (some : 0 < length rest) (x r : List ℕ) (is : rest ≡ x ++ r) (long : length x ≡ min record_bytes (length rest)) {ys : List ℕ} {q : ℕ} (z : LineIn x (number + i) (take (length now - w) (drop w now)) ys q) where
+      pub turned : Progress s number before r (i + 1) (w + q) (take w now ++ (ys ++ drop (length now - w) (drop w now)))
       unfolding record_bytes terms limit
       turned =
-          let j : at ≡ record_bytes * (k - number) = g.whole lt in
-          let e = ends lt is in
           record {
-            inside = e.within;
-            from = omega (arith, g.from);
-            passed = omega (arith, g.from, e.short, e.after);
-            whole = λ h. omega (arith, g.from, e.full h);
-            long = ap length (part_sets now w z.put) ∙ (length-sets now w z.text ∙ g.long);
+            passed = omega (arith, g.left some);
+            left = λ h. omega (arith, g.left some, long, ap length is, length-append x r);
             text = g.text ++ z.text;
-            put = put-most (sum most_line) (put-append g.put (part-put now w z.put));
-            rest = λ u l. rw append_assoc (g.rest (z.text ++ u) (more (omega (arith, length-drop at s)) (rw (cut s at r e) at z.line) (rw (left s at r e) at l) refl));
+            put = put-most (omega (arith, mul-suc most_line i)) (put-append g.put (part-put now w z.put));
+            whole = λ u l. rw append_assoc (g.whole (z.text ++ u) (more {t = z.text} {u = u} some (rw (first x r is long) z.line) (rw (others x r is long) (rw (on i) at l)) refl));
           }
         where
-          sum : (n : ℕ) → n * (k - number) + n ≤ n * (k + 1 - number)
-          sum n = let d : k + 1 - number ≡ suc (k - number) = omega (arith, g.from) in rw d (omega (arith, mul-suc n (k - number)))
+          on : (i : ℕ) → number + (i + 1) ≡ number + i + 1
+          on i = omega arith

@@ -175,14 +175,9 @@ pub fn lines(s: &[u8], number: u32, binomials: &[u64; ENTRIES], out: &mut [u8]) 
     requires table { binomials.now ≡ triangle rows }
     ensures { LinesIn s.now number out.old out.new result }
 {
-    let mut at = 0;
-    let mut k = number;
     let mut w = 0;
-    while at < s.len() {
-        let end = polynomial::smaller(at + record::BYTES, s.len());
-        w += line(&s[at..end], k, binomials, &mut out[w..]);
-        at = end;
-        k += 1;
+    for (i, record) in s.chunks(record::BYTES).enumerate() {
+        w += line(record, number + i as u32, binomials, &mut out[w..]);
     }
     w
 }

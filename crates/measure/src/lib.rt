@@ -7,36 +7,23 @@ use reciprocal::MACHINE_WORDS;
 // not hold, out stays as it was.
 #[unsafe(no_mangle)]
 pub extern "C" fn measure_product(a: &[u32], b: &[u32], m: u64, out: &mut [u32]) {
-    if m < 2 {
+    if m < 2 || MACHINE_WORDS < m {
         return;
     }
-    if MACHINE_WORDS < m {
-        return;
-    }
-    if a.len() < out.len() {
-        return;
-    }
-    if b.len() < out.len() {
-        return;
-    }
-    if 0x7fff_ffff <= out.len() {
+    let n = out.len();
+    if a.len() < n || b.len() < n || 0x7fff_ffff <= n {
         return;
     }
     let d = reciprocal::made_ready(m);
-    let mut k = 0;
-    while k < out.len() {
-        out[k] = inner::inner_product(a, b, k, 0, k + 1, d);
-        k += 1;
+    for (k, c) in out.iter_mut().enumerate() {
+        *c = inner::inner_product(a, b, k, 0, k + 1, d);
     }
 }
 
 // a^n modulo m, and 0 where m is no modulus.
 #[unsafe(no_mangle)]
 pub extern "C" fn measure_power(a: u32, n: usize, m: u64) -> u32 {
-    if m < 2 {
-        return 0;
-    }
-    if MACHINE_WORDS < m {
+    if m < 2 || MACHINE_WORDS < m {
         return 0;
     }
     residue::power(a, n, reciprocal::made_ready(m))
@@ -45,14 +32,11 @@ pub extern "C" fn measure_power(a: u32, n: usize, m: u64) -> u32 {
 // The inverse of a modulo m, and 0 where there is none or m is no modulus.
 #[unsafe(no_mangle)]
 pub extern "C" fn measure_invert(a: u64, m: u64) -> u64 {
-    if m < 2 {
-        return 0;
-    }
-    if MACHINE_WORDS < m {
+    if m < 2 || MACHINE_WORDS < m {
         return 0;
     }
     match inverse::invert(a, m) {
-        inverse::Inverse::Of(x) => x as u64,
+        inverse::Inverse::Of(x) => u64::from(x),
         inverse::Inverse::Shared(_) => 0,
     }
 }

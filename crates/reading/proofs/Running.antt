@@ -4,13 +4,12 @@
 --   Piecewise Makes                      what is made of whole records, and then of what follows them, is made of all
 --   SoFar Makes taken xs input t         t is made of the whole records of the input so far, and the buffer xs has the rest
 --   stepped                              a turn, by what is made of the buffer and what is moved to its front
---   turn_on, turn-ended                  the turn of a read, by the bytes that it kept
+--   turned                               the turn of a read, by the bytes that it kept
 --   Ran Makes taken xs                   there were such turns so far
 --   ran_none, ran-more                   before the first turn, and after one more
 --   so_far                               so it is after some turns
 --   whole                                what a run that has come to its end has put is made of the input
 use mathlib.Core.Path.{◌≡◌, refl, sym, ap, subst, ◌∙◌}
-use mathlib.Core.Bool.{true, false}
 use mathlib.Core.Logic.{⊎_elim}
 use mathlib.Core.List.{List, [], ◌++◌, append_assoc, append-nil}
 use Prim.Native.Nat.{ℕ, ◌+◌, ◌-◌, ◌/◌, ◌%◌, ◌<◌, ◌≤◌}
@@ -22,9 +21,8 @@ use lib.Seq.{take-append-add, drop-append-add, length-take-le, take_all, take-ta
 use Rattle.algebra.specs.Polynomial.{terms, limit}
 use Rattle.record.specs.Record.{record_bytes}
 use Rattle.reading.specs.Reading.{most_listed, most_read, number_after, Came, upto, to_front}
-use Rattle.reading.specs.declared.Got.TheVariants.{Bytes}
-use Rattle.reading.specs.declared.Turned.{Turned}
-use Rattle.reading.specs.declared.Turned.TheVariants.{On, Ended}
+use Rattle.reading.specs.declared.Failed.{Failed}
+use Rattle.std.specs.Prelude.{Result, Ok, IsErr}
 use Rattle.reading.specs.Running.{handed, Turn, Run, Step, TurnOf, Whole, RunOf}
 use Rattle.reading.specs.Running as of
 
@@ -61,6 +59,10 @@ left : (taken more : ℕ) → 0 < more → taken % record_bytes + more - upto (t
 unfolding record_bytes terms limit
 left taken more some = omega (arith, upto-some (taken % record_bytes) more some)
 
+-- what has come is no failure
+no_failure : {r : Result ℕ Failed} {n : ℕ} → r ≡ Ok n → IsErr r → ⊥
+no_failure f e = let z : ◌≡◌ {A = ℕ} 0 1 = cc in omega arith
+
 module _ (Makes : List ℕ → ℕ → List ℕ → Type 0) where
   pub stepped : (taken more : ℕ) {xs ys : List ℕ} (t : List ℕ) → taken % record_bytes + more ≤ length xs
       → Makes (take (upto (taken % record_bytes) more) xs) (number_after taken) t
@@ -86,15 +88,14 @@ module _ (Makes : List ℕ → ℕ → List ℕ → Type 0) where
   unfolding handed
   read-before same turn = record { made = rw same at turn.made; rest = λ some. rw same at (turn.rest some) }
 
-  -- a turn that goes on, by its read
-  pub turn_on : {taken n : ℕ} {xs ys zs : List ℕ} {r : Turned} → Came taken xs ys (Bytes n) → taken % record_bytes + n ≤ length ys → 0 < n → Step Makes taken n ys zs → r ≡ On n
-      → TurnOf Makes taken xs zs r
-  turn_on {taken} {n} {xs} {ys} {r = r} came room some step e =
+  -- a turn, by its read
+  pub turned : {taken n : ℕ} {xs ys zs : List ℕ} → Came taken xs ys (Ok n) → taken % record_bytes + n ≤ length ys → Step Makes taken n ys zs → TurnOf Makes taken xs zs (Ok n)
+  turned {taken} {n} {xs} {ys} {zs} came room step =
       let long : length (take n (drop (taken % record_bytes) ys)) ≡ n = length-take-le n (drop (taken % record_bytes) ys) (simp length-drop (omega arith)) in
-      of.on {brought = take n (drop (taken % record_bytes) ys)} (e ∙ ap (λ (k : ℕ). On k) (sym long)) (rw long some) (rw long came.brings.0) (read-before came.kept step.turn)
-
-  pub turn-ended : {taken n : ℕ} {xs ys zs : List ℕ} {r : Turned} → Came taken xs ys (Bytes n) → n ≡ 0 → Step Makes taken n ys zs → r ≡ Ended → TurnOf Makes taken xs zs r
-  turn-ended came none step e = of.ended e (read-before came.kept (rw none at step.turn))
+      ⊎_elim
+      (λ (none : 0 ≡ n). of.ended (ap (λ (k : ℕ). Ok k) (sym none)) (read-before came.kept (rw (sym none) at step.turn)))
+      (λ (some : 0 < n). of.on {brought = take n (drop (taken % record_bytes) ys)} (ap (λ (k : ℕ). Ok k) (sym long)) (rw long some) (rw long came.brings.0) (read-before came.kept step.turn))
+      (N.eq-or-lt_of_le (omega arith))
 
   -- there were such turns so far
   pub record Ran (taken : ℕ) (xs : List ℕ) : Type 0 where
@@ -105,22 +106,22 @@ module _ (Makes : List ℕ → ℕ → List ℕ → Type 0) where
   pub ran_none : (xs : List ℕ) → Ran 0 xs
   ran_none xs = record { input = []; text = []; run = of.begun }
 
-  pub ran_on : {taken n : ℕ} {xs ys : List ℕ} {r : Turned} → TurnOf Makes taken xs ys r → r ≡ On n → Ran taken xs → (0 < n) × (taken + n ≤ most_read) × Ran (taken + n) ys
-  ran_on {taken} {n} {ys = ys} (of.on {brought = brought} e some room turn) f k =
+  pub ran_on : {taken n : ℕ} {xs ys : List ℕ} {r : Result ℕ Failed} → TurnOf Makes taken xs ys r → r ≡ Ok n → 0 < n → Ran taken xs → (taken + n ≤ most_read) × Ran (taken + n) ys
+  ran_on {taken} {n} {ys = ys} (of.on {brought = brought} e some room turn) f more k =
       let same : length brought ≡ n = cc in
-      (rw same at some, rw same at room, subst (λ (i : ℕ). Ran (taken + i) ys) same (record { input = _; text = _; run = of.turned k.run some turn }))
-  ran_on (of.ended e turn) f k = let z : ◌≡◌ {A = ℕ} 0 1 = cc in absurd (omega arith)
-  ran_on (of.failed e) f k = let z : ◌≡◌ {A = ℕ} 0 1 = cc in absurd (omega arith)
+      (rw same at room, subst (λ (i : ℕ). Ran (taken + i) ys) same (record { input = _; text = _; run = of.turned k.run some turn }))
+  ran_on {n = n} (of.ended e turn) f more k = let none : ◌≡◌ {A = ℕ} 0 n = cc in absurd (omega arith)
+  ran_on (of.failed e) f more k = absurd (no_failure f e)
 
-  pub run-ended : {taken : ℕ} {xs ys : List ℕ} {r : Turned} → TurnOf Makes taken xs ys r → r ≡ Ended → Ran taken xs → RunOf Makes true
-  run-ended (of.on e some room turn) f k = let z : ◌≡◌ {A = ℕ} 0 1 = cc in absurd (omega arith)
-  run-ended (of.ended e turn) f k = of.whole refl (of.ended k.run turn)
-  run-ended (of.failed e) f k = let z : ◌≡◌ {A = ℕ} 0 1 = cc in absurd (omega arith)
+  pub run-ended : {taken n : ℕ} {xs ys : List ℕ} {r : Result ℕ Failed} → TurnOf Makes taken xs ys r → r ≡ Ok n → n ≡ 0 → Ran taken xs → RunOf Makes (Ok tt)
+  run-ended {n = n} (of.on {brought = brought} e some room turn) f none k = let same : length brought ≡ n = cc in absurd (omega arith)
+  run-ended (of.ended e turn) f none k = of.whole refl (of.ended k.run turn)
+  run-ended (of.failed e) f none k = absurd (no_failure f e)
 
-  pub run-failed : {taken : ℕ} {xs : List ℕ} → Ran taken xs → RunOf Makes false
-  run-failed k = of.failed refl k.run
+  pub run-failed : {taken : ℕ} {xs : List ℕ} {r : Result Unit Failed} → IsErr r → Ran taken xs → RunOf Makes r
+  run-failed e k = of.failed e k.run
 
-  pub run-full : {taken : ℕ} {xs : List ℕ} → taken ≡ most_read → Ran taken xs → RunOf Makes true
+  pub run-full : {taken : ℕ} {xs : List ℕ} → taken ≡ most_read → Ran taken xs → RunOf Makes (Ok tt)
   run-full e k = of.whole refl (of.full (rw e at k.run))
 
 module _ {Makes : List ℕ → ℕ → List ℕ → Type 0} (p : Piecewise Makes) where

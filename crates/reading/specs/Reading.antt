@@ -8,10 +8,9 @@
 --   Came taken xs ys got    what a read into the buffer xs may come to, which is ys afterwards
 --   upto kept more          how many bytes are listed where `more` have come after `kept`
 --   to_front xs from n      xs after its n elements from index `from` on were put at the front
-use Rattle.std.specs.Prelude.{◌≡◌, cond, List, ◌++◌, ℕ, ◌+◌, ◌-◌, ◌*◌, ◌/◌, ◌%◌, ◌<◌, ◌≤◌, eqb, length, take, drop}
+use Rattle.std.specs.Prelude.{◌≡◌, cond, Result, Ok, Err, List, ◌++◌, ℕ, ◌+◌, ◌-◌, ◌*◌, ◌/◌, ◌%◌, ◌<◌, ◌≤◌, eqb, length, take, drop}
 use Rattle.record.specs.Record.{record_bytes}
-use Rattle.reading.specs.declared.Got.{Got}
-use Rattle.reading.specs.declared.Got.TheVariants.{Bytes, Failed}
+use Rattle.reading.specs.declared.Failed.{Failed}
 
 -- after so many a program stops reading
 unfoldable pub most_listed : ℕ
@@ -32,12 +31,12 @@ pub record MayRead (taken bytes r : ℕ) : Type 0 where
   pub listed : taken + r ≤ most_read
 
 -- so many bytes have room behind those of the record that is begun, and none of them lies past the last record that is read
-abbrev pub Brings : ℕ → ℕ → Got → Type 0
-Brings taken room (Bytes n) = (taken + n ≤ most_read) × (taken % record_bytes + n ≤ room)
-Brings taken room Failed = Unit
+abbrev pub Brings : ℕ → ℕ → Result ℕ Failed → Type 0
+Brings taken room (Ok n) = (taken + n ≤ most_read) × (taken % record_bytes + n ≤ room)
+Brings taken room (Err e) = Unit
 
 -- the bytes of the record that is begun stay as they are
-pub record Came (taken : ℕ) (xs ys : List ℕ) (got : Got) : Type 0 where
+pub record Came (taken : ℕ) (xs ys : List ℕ) (got : Result ℕ Failed) : Type 0 where
   pub brings : Brings taken (length xs) got
   pub kept : take (taken % record_bytes) ys ≡ take (taken % record_bytes) xs
 

@@ -9,11 +9,10 @@
 --   TurnOf Makes taken xs ys r           what a turn promises, by its answer r
 --   Whole Makes input t                  a run that has come to its end
 --   RunOf Makes r                        what all turns together promise, by their answer r
-use Rattle.std.specs.Prelude.{◌≡◌, Bool, true, false, List, [], ◌++◌, ℕ, ◌+◌, ◌%◌, ◌<◌, ◌≤◌, length, take, drop}
+use Rattle.std.specs.Prelude.{◌≡◌, Result, Ok, IsErr, List, [], ◌++◌, ℕ, ◌+◌, ◌%◌, ◌<◌, ◌≤◌, length, take, drop}
 use Rattle.record.specs.Record.{record_bytes}
 use Rattle.reading.specs.Reading.{most_read, number_after, upto}
-use Rattle.reading.specs.declared.Turned.{Turned}
-use Rattle.reading.specs.declared.Turned.TheVariants.{On, Ended, Failed}
+use Rattle.reading.specs.declared.Failed.{Failed}
 
 -- those of the record that is begun stand first
 unfoldable pub handed : ℕ → List ℕ → List ℕ → List ℕ
@@ -35,19 +34,19 @@ pub record Step (Makes : List ℕ → ℕ → List ℕ → Type 0) (taken more :
   pub text : List ℕ
   pub turn : Turn Makes taken xs ys (take more (drop (taken % record_bytes) xs)) text
 
--- more was brought, the input has ended, or reading or writing failed
-pub data TurnOf (Makes : List ℕ → ℕ → List ℕ → Type 0) (taken : ℕ) (xs ys : List ℕ) (r : Turned) : Type 0 where
-  on : {brought t : List ℕ} → r ≡ On (length brought) → 0 < length brought → taken + length brought ≤ most_read → Turn Makes taken xs ys brought t
+-- bytes were brought, none since the input has ended, or reading or writing failed
+pub data TurnOf (Makes : List ℕ → ℕ → List ℕ → Type 0) (taken : ℕ) (xs ys : List ℕ) (r : Result ℕ Failed) : Type 0 where
+  on : {brought t : List ℕ} → r ≡ Ok (length brought) → 0 < length brought → taken + length brought ≤ most_read → Turn Makes taken xs ys brought t
       → TurnOf Makes taken xs ys r
-  ended : {t : List ℕ} → r ≡ Ended → Turn Makes taken xs ys [] t → TurnOf Makes taken xs ys r
-  failed : r ≡ Failed → TurnOf Makes taken xs ys r
+  ended : {t : List ℕ} → r ≡ Ok 0 → Turn Makes taken xs ys [] t → TurnOf Makes taken xs ys r
+  failed : IsErr r → TurnOf Makes taken xs ys r
 
 -- the input has ended, or as many records were read as are read at the most
 pub data Whole (Makes : List ℕ → ℕ → List ℕ → Type 0) (input : List ℕ) : List ℕ → Type 0 where
   ended : {taken : ℕ} {xs ys t u : List ℕ} → Run Makes taken xs input t → Turn Makes taken xs ys [] u → Whole Makes input (t ++ u)
   full : {xs t : List ℕ} → Run Makes most_read xs input t → Whole Makes input t
 
--- true if it has come to its end, and false if reading or writing failed
-pub data RunOf (Makes : List ℕ → ℕ → List ℕ → Type 0) (r : Bool) : Type 0 where
-  whole : {input t : List ℕ} → r ≡ true → Whole Makes input t → RunOf Makes r
-  failed : {taken : ℕ} {xs input t : List ℕ} → r ≡ false → Run Makes taken xs input t → RunOf Makes r
+-- it has come to its end, or reading or writing failed
+pub data RunOf (Makes : List ℕ → ℕ → List ℕ → Type 0) (r : Result Unit Failed) : Type 0 where
+  whole : {input t : List ℕ} → r ≡ Ok tt → Whole Makes input t → RunOf Makes r
+  failed : {taken : ℕ} {xs input t : List ℕ} → IsErr r → Run Makes taken xs input t → RunOf Makes r

@@ -66,10 +66,7 @@ fn put_word(r: &mut [u8], j: usize, w: u32)
     ensures { r.new ≡ put_word_of r.old j w }
 {
     let at = j * 4;
-    r[at] = (w % 256) as u8;
-    r[at + 1] = (w / 256 % 256) as u8;
-    r[at + 2] = (w / 256 / 256 % 256) as u8;
-    r[at + 3] = (w / 256 / 256 / 256 % 256) as u8;
+    r[at..at + 4].copy_from_slice(&w.to_le_bytes());
 }
 
 // The record of the modulus word and p over a place that is lent.
@@ -87,11 +84,7 @@ fn put_part(r: &mut [u8], m: u32, p: &[u32])
 pub fn blank(b: &mut [u8])
     ensures { b.new ≡ replicate (length b.old) 0 }
 {
-    let mut k = 0;
-    while k < b.len() {
-        b[k] = 0;
-        k += 1;
-    }
+    b.fill(0);
 }
 
 // Place i of a sheet, from place i of an area.

@@ -3,16 +3,15 @@
 --   put_x, put-term, put_zero, put-lower    *x^; a term; no term; + and a term
 --   Lowering, lowering_none, lowering_more, lowering_all     the terms from the degree down
 --   put_written                    the leading term and the others
---   copied_more, copied_all        a text copied from a buffer, a byte at a time
-use mathlib.Core.Path.{◌≡◌, refl, sym, ap, ◌∙◌}
+--   copied                         a text copied from a buffer
+use mathlib.Core.Path.{◌≡◌, refl, sym, ap, ap₂, ◌∙◌}
 use mathlib.Core.List.{List, [], ◌∷◌, ◌++◌, append_assoc, append-nil}
-use Prim.Native.Nat.{ℕ, suc, ◌+◌, ◌*◌, ◌-◌, ◌≤◌, ◌<◌}
+use Prim.Native.Nat.{ℕ, suc, ◌+◌, ◌*◌, ◌-◌, ◌≤◌}
 use native.Mathlib.Nat as N
-use native.Mathlib.Numerals.{add-one}
 use native.Mathlib.Omega.{arith}
 use borrow.Author.Tests.{eq-eqb, ne_eqb}
-use lib.ListN.{length, get_or, set, take, drop}
-use lib.Seq.{sets, sets-eq, take-suc, length-take-le}
+use lib.ListN.{length, set, take, drop}
+use lib.Seq.{sets, sets-eq, take_at, drop-drop}
 use Rattle.algebra.specs.Polynomial.{coef, terms}
 use Rattle.polynomial.specs.Checks.{Measured}
 use Rattle.built.proofs.Building.{measured_ends}
@@ -20,11 +19,14 @@ use Rattle.digits.specs.Digits.{decimal, most_digits, Put}
 use Rattle.digits.proofs.Text.{put-append, put-most, put_byte, put-nothing}
 use Rattle.text.specs.Writing.{term_text, lower_term, lower, text_of, most_term, most_text}
 
-pub put_x : (b : List ℕ) (at : ℕ) → Put b at (42 ∷ 120 ∷ 94 ∷ []) 3 (set (set (set b at 42) (at + 1) 120) (at + 2) 94) (at + 3)
-put_x b at =
-    let e : at + 1 + 1 ≡ at + 2 = omega arith in
-    let d : at + 1 + 1 + 1 ≡ at + 3 = omega arith in
-    rw (← e, ← d) (put-append (put_byte b at 42) (put-append (put_byte (set b at 42) (at + 1) 120) (put_byte (set (set b at 42) (at + 1) 120) (at + 1 + 1) 94)))
+-- a text that is copied into its place
+put_slice : (b t : List ℕ) (at : ℕ) {s : List ℕ} {n : ℕ} → at + length t ≤ length b → n ≡ length t → s ≡ t → take at b ++ (s ++ drop n (drop at b)) ≡ sets b at t
+put_slice b t at room long is =
+    ap₂ (λ (l : List ℕ) (k : ℕ). take at b ++ (l ++ drop k (drop at b))) is long ∙ ap (λ (r : List ℕ). take at b ++ (t ++ r)) (drop-drop (length t) at b)
+    ∙ sym (append_assoc (take at b) t (drop (at + length t) b)) ∙ sym (sets-eq t b at room)
+
+pub put_x : (b : List ℕ) (at : ℕ) {s : List ℕ} {n : ℕ} → at + 3 ≤ length b → n ≡ 3 → s ≡ 42 ∷ 120 ∷ 94 ∷ [] → Put b at (42 ∷ 120 ∷ 94 ∷ []) 3 (take at b ++ (s ++ drop n (drop at b))) (at + 3)
+put_x b at room long is = record { stored = put_slice b (42 ∷ 120 ∷ 94 ∷ []) at room long is; end = refl; within = omega arith }
 
 pub put-term : {b x y z : List ℕ} {at p q r : ℕ} (c i : ℕ) → Put b at (decimal c) most_digits x p → Put x p (42 ∷ 120 ∷ 94 ∷ []) 3 y q → Put y q (decimal i) most_digits z r → Put b at (term_text c i) most_term z r
 unfolding term_text most_term
@@ -70,18 +72,8 @@ put_written f {n = n} d h one two = rw (← d.is, ← h) (put-most (omega (arith
 
 -- ---- from the buffer into the area
 
--- one byte more
-pub copied_more : (xs : List ℕ) {ys : List ℕ} (text : List ℕ) {i x : ℕ} → i < length text → x ≡ get_or text i 0 → ys ≡ sets xs 0 (take i text) → set ys i x ≡ sets xs 0 (take (i + 1) text)
-copied_more xs {ys} text {i} {x} l e is =
-    let p : Put xs 0 (take i text) i ys i = record { stored = is; end = omega (arith, length-take-le i text (omega arith)); within = omega arith } in
-    (put-append p (put_byte ys i x)).stored ∙ rw (e, add-one i) (ap (sets xs 0) (sym (take-suc text i 0 l)))
-
 -- the text, and past it what was there
-pub copied_all : (b t xs : List ℕ) {ys text : List ℕ} {n most : ℕ} → length t ≤ length b → n ≤ length xs → Put b 0 t most text n → ys ≡ sets xs 0 (take n text) → ys ≡ t ++ drop (length t) xs
-copied_all b t xs {ys} {text} {n} room l p is =
-    is ∙ ap (sets xs 0) (ap (take n) (p.stored ∙ sets-eq t b 0 (omega arith)) ∙ ap (λ (k : ℕ). take k (t ++ drop (0 + length t) b)) (p.end ∙ N.zero-add (length t)) ∙ take-here t (drop (0 + length t) b))
-    ∙ sets-eq t xs 0 (omega (arith, p.end)) ∙ ap (λ (k : ℕ). t ++ drop k xs) (N.zero-add (length t))
-  where
-    take-here : (t u : List ℕ) → take (length t) (t ++ u) ≡ t
-    take-here [] u = refl
-    take-here (x ∷ t) u = ap (λ (l : List ℕ). x ∷ l) (take-here t u)
+pub copied : (b t xs : List ℕ) {ys text : List ℕ} {n most : ℕ} → length t ≤ length b → Put b 0 t most text n → ys ≡ take n text ++ drop n xs → ys ≡ t ++ drop (length t) xs
+copied b t xs {n = n} room p is =
+    let e : n ≡ length t = p.end ∙ N.zero-add (length t) in
+    is ∙ ap₂ ◌++◌ (ap (take n) (p.stored ∙ sets-eq t b 0 (omega arith)) ∙ take_at t _ n (sym e)) (ap (λ (k : ℕ). drop k xs) e)

@@ -1,8 +1,7 @@
 // Typed polynomials: the operation write.
 #![tactic(auto)]
 
-ghost use Rattle.std.specs.Prelude.{◌≡◌, [], ◌∷◌, ◌+◌, ◌*◌, ◌≤◌, length, take};
-ghost use Rattle.std.proofs.lemmas.List.Edits.{sets};
+ghost use Rattle.std.specs.Prelude.{◌≡◌, [], ◌∷◌, ◌+◌, ◌*◌, ◌≤◌, length};
 ghost use Rattle.algebra.specs.Polynomial.{limit};
 ghost use Rattle.polynomial.specs.Moduli.{modulus};
 ghost use Rattle.polynomial.specs.Checks.{Measured};
@@ -26,9 +25,7 @@ fn put_x(out: &mut [u8], at: usize) -> usize
     requires { at + 3 ≤ length out.old }
     ensures { Put out.old at (times_byte ∷ x_byte ∷ power_byte ∷ []) 3 out.new result }
 {
-    out[at] = b'*';
-    out[at + 1] = b'x';
-    out[at + 2] = b'^';
+    out[at..at + 3].copy_from_slice(b"*x^");
     at + 3
 }
 
@@ -59,13 +56,11 @@ fn put_lowers(f: &[u32], n: usize, out: &mut [u8], at: usize) -> usize
     requires { Measured n f.now × (at + (1 + most_term) * n ≤ length out.old) }
     ensures { Put out.old at (lower n f.now) ((1 + most_term) * n) out.new result }
 {
-    let mut k = n;
-    let mut p = at;
-    while k != 0 {
-        k -= 1;
-        p = put_lower(f[k], k, out, p);
+    let mut end = at;
+    for k in (0..n).rev() {
+        end = put_lower(f[k], k, out, end);
     }
-    p
+    end
 }
 
 // The text of f, of degree n.
@@ -75,16 +70,6 @@ fn put_text(f: &[u32], n: usize, out: &mut [u8]) -> usize
 {
     let at = put_term(f[n], n, out, 0);
     put_lowers(f, n, out, at)
-}
-
-// The first n bytes of a text into an area.
-fn copy(text: &[u8], n: usize, area: &mut [u8])
-    requires { (n ≤ length text.now) × (n ≤ length area.old) }
-    ensures { area.new ≡ sets area.old 0 (take n text.now) }
-{
-    for i in 0..n {
-        area[i] = text[i];
-    }
 }
 
 // Nothing is written.
@@ -108,7 +93,7 @@ pub fn write(m: u32, f: Coefficients, area: &mut [u8]) -> Written
     if area.len() < length {
         return unwritten(refusal::refused(Concerns::Neither, Reason::Area));
     }
-    copy(&text, length, area);
+    area[..length].copy_from_slice(&text[..length]);
     Written {
         outcome: Outcome::Answered,
         length,

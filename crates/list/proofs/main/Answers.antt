@@ -10,4 +10,4 @@ use Rattle.list.proofs.main.Goals as goal
 
 pub run-requires : goal.run-requires
 unfolding buffer_bytes most_lines most_line before_degrees most_field most_digits most_parts most_records record_bytes terms limit
-run-requires c = record { fits = search rules; table = search rules }
+run-requires c = search rules

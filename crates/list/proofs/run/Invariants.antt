@@ -1,13 +1,11 @@
-use mathlib.Core.Path.{◌≡◌}
 use Prim.Native.Nat.{◌-◌, ◌≤◌}
-use lib.ListN.{length}
 use Rattle.listing.specs.Listing.{Lines}
 use Rattle.reading.specs.Reading.{most_read}
 use Rattle.reading.proofs.Running.{Ran}
 use Rattle.list.proofs.run.Given as goal
 
 abbrev pub invariant-loop-taken : goal.invariant-loop-taken
-invariant-loop-taken l = (l.taken ≤ most_read) × (length l.buf ≡ length l.initial.buf) × (length l.out ≡ length l.initial.out) × Ran Lines l.taken l.buf
+invariant-loop-taken l = (l.taken ≤ most_read) × Ran Lines l.taken l.buf
 
 abbrev pub decreases-loop-taken : goal.decreases-loop-taken
 decreases-loop-taken l = most_read - l.taken

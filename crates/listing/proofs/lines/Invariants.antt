@@ -1,10 +1,8 @@
-use Prim.Native.Nat.{◌-◌}
-use lib.ListN.{length}
+use mathlib.Core.Path.{◌≡◌}
+use Rattle.record.specs.Record.{record_bytes}
 use Rattle.listing.proofs.Cutting.{Progress}
 use Rattle.listing.proofs.lines.Given as goal
 
-abbrev pub invariant-loop-at : goal.invariant-loop-at
-invariant-loop-at l = Progress l.s l.number l.initial.out l.at l.k l.w l.out
-
-abbrev pub decreases-loop-at : goal.decreases-loop-at
-decreases-loop-at l = length l.s - l.at
+abbrev pub invariant-loop-i : goal.invariant-loop-i
+invariant-loop-i l =
+    (l.i-iterator.iter.size ≡ record_bytes) × Progress l.s l.number l.initial.out l.i-iterator.iter.rest.now l.i-iterator.count l.w l.out

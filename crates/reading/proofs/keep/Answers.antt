@@ -1,23 +1,16 @@
-use mathlib.Core.Path.{◌≡◌, refl}
+use mathlib.Core.Path.{◌≡◌, ap, ◌∙◌}
+use mathlib.Core.List.{◌++◌}
+use Prim.Native.Nat.{ℕ, ◌+◌, ◌-◌}
 use native.Mathlib.Omega.{arith}
-use borrow.Author.Rules.{rules}
-use lib.ListN.{length-set}
+use lib.ListN.{take, drop}
 use Rattle.reading.specs.Reading.{to_front}
-use Rattle.reading.proofs.Front.{to_front_more}
 use Rattle.reading.proofs.keep.Goals as goal
 
-pub loop-i-init : goal.loop-i-init
-unfolding to_front
-loop-i-init c = (search rules, search rules, refl)
-
-pub loop-i-preserved : goal.loop-i-preserved
-loop-i-preserved c =
-    let l = c.loop-i in
-    let a = c.args in
-    (search rules, simp length-set l.invariant.1, rw l.invariant.2 (to_front_more a.buf.now a.from l.i (omega arith)))
-
 pub returns : goal.returns
+unfolding to_front
 returns c =
-    let l = c.loop-i in
-    let e : l.i ≡ c.args.n = omega arith in
-    rw e at l.invariant.2
+    let a = c.args in
+    let moved : a.from + a.n - a.from ≡ a.n = omega arith in
+    let rest : 0 + a.n ≡ a.n = omega arith in
+    c.copy_within.ensures.after ∙ ap (λ (k : ℕ). take k (drop a.from a.buf.now) ++ drop (0 + k) a.buf.now) moved
+    ∙ ap (λ (k : ℕ). take a.n (drop a.from a.buf.now) ++ drop k a.buf.now) rest

@@ -9,13 +9,9 @@ unfolding most_read most_listed record_bytes terms limit
 overflow_sub-left c = omega arith
 
 pub overflow_sub-free : goal.overflow_sub-free
-unfolding most_read most_listed record_bytes terms limit
+unfolding record_bytes terms limit
 overflow_sub-free c = omega arith
 
-pub returns-then-left-free : goal.returns-then-left-free
+pub returns : goal.returns
 unfolding most_read most_listed record_bytes terms limit
-returns-then-left-free c = omega arith
-
-pub returns-else-left-free : goal.returns-else-left-free
-unfolding most_read most_listed record_bytes terms limit
-returns-else-left-free c = omega arith
+returns c = record { some = omega (arith, c.min.ensures); behind = omega (arith, c.min.ensures); listed = omega (arith, c.min.ensures) }

@@ -7,20 +7,16 @@ use Rattle.record.proofs.coefficients.Goals as goal
 
 pub loop-i-init : goal.loop-i-init
 unfolding terms limit
-loop-i-init c = (omega arith, filled_none refl)
+loop-i-init c = filled_none refl
 
 pub word-requires : goal.word-requires
 unfolding terms limit record_bytes
 word-requires c = omega arith
 
-pub loop-i-smaller : goal.loop-i-smaller
-unfolding terms limit
-loop-i-smaller c = omega arith
-
 pub loop-i-preserved : goal.loop-i-preserved
 unfolding terms limit
-loop-i-preserved c = (omega arith, filled_more (omega arith) c.word.ensures c.loop-i.invariant.1)
+loop-i-preserved c = filled_more (omega arith) c.word.ensures c.loop-i.invariant
 
 pub returns : goal.returns
 unfolding terms limit coefficients
-returns c = filled-all (omega arith) c.loop-i.invariant.1
+returns c = filled-all (omega arith) c.loop-i.invariant

@@ -4,4 +4,4 @@ use Rattle.record.proofs.word.Goals as goal
 
 pub returns : goal.returns
 unfolding word
-returns c = omega arith
+returns c = omega (arith, c.from_le_bytes.ensures)

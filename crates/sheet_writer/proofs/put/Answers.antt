@@ -10,23 +10,19 @@ use borrow.Author.Rules.{rules}
 use Rattle.sheet_writer.proofs.put.Goals as goal
 
 pub loop-i-init : goal.loop-i-init
-loop-i-init c = (omega arith, search rules, joined-begun _ record_bytes _)
+loop-i-init c = joined-begun _ record_bytes _
 
 pub loop-i-preserved : goal.loop-i-preserved
 unfolding most_parts put_record
 loop-i-preserved c =
     let l = c.loop-i in
     let a = c.args in
-    (omega arith, search rules, put_next (λ i. recorded a.m (place a.area.now i)) record_bytes (λ i. recorded-long a.m (place a.area.now i)) _ _ l.i l.invariant.2 c.put_place.ensures)
+    put_next (λ i. recorded a.m (place a.area.now i)) record_bytes (λ i. recorded-long a.m (place a.area.now i)) _ _ l.i l.invariant c.put_place.ensures
 
 pub returns : goal.returns
 unfolding sheet_of sheet_bytes most_parts
-returns c = joined_done _ record_bytes _ most_parts (omega arith) (omega arith) c.loop-i.invariant.2
+returns c = joined_done _ record_bytes _ most_parts (omega arith) (omega arith) c.loop-i.invariant
 
 pub put_place-requires : goal.put_place-requires
 unfolding sheet_bytes record_bytes area_words most_parts terms limit
 put_place-requires c = search rules
-
-pub loop-i-smaller : goal.loop-i-smaller
-unfolding sheet_bytes record_bytes area_words most_parts terms limit
-loop-i-smaller c = omega arith

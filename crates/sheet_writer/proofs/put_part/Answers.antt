@@ -7,20 +7,20 @@ use Rattle.sheet_writer.proofs.put_part.Goals as goal
 
 pub loop-j-init : goal.loop-j-init
 unfolding terms limit
-loop-j-init c = let a = c.args in (omega arith, search rules, word_first a.m a.p.now a.r.now c.put_word.ensures)
+loop-j-init c = let a = c.args in word_first a.m a.p.now a.r.now c.put_word.ensures
 
 pub loop-j-preserved : goal.loop-j-preserved
 unfolding terms limit
 loop-j-preserved c =
     let l = c.loop-j in
     let a = c.args in
-    (omega arith, search rules, word_next a.m a.p.now c.put_word.new.r l.r l.j l.invariant.2 c.put_word-in-loop-j.ensures)
+    word_next a.m a.p.now c.put_word.new.r l.r l.j l.invariant c.put_word-in-loop-j.ensures
 
 pub returns : goal.returns
 unfolding record_bytes terms limit
 returns c =
     let l = c.loop-j in
-    word_last _ _ _ (omega arith) (omega arith) l.invariant.2
+    word_last _ _ _ (omega arith) (omega arith) l.invariant
 
 pub put_word-requires : goal.put_word-requires
 unfolding record_bytes terms limit
@@ -33,7 +33,3 @@ bounds-p-j c = search rules
 pub put_word-requires-in-loop-j : goal.put_word-requires-in-loop-j
 unfolding record_bytes terms limit
 put_word-requires-in-loop-j c = search rules
-
-pub loop-j-smaller : goal.loop-j-smaller
-unfolding record_bytes terms limit
-loop-j-smaller c = omega arith

@@ -1,14 +1,10 @@
 use mathlib.Core.Path.{◌≡◌}
 use mathlib.Core.List.{◌++◌}
-use Prim.Native.Nat.{◌+◌, ◌*◌, ◌-◌, ◌≤◌}
-use lib.ListN.{length, drop}
-use Rattle.algebra.specs.Polynomial.{terms}
+use Prim.Native.Nat.{◌+◌, ◌*◌}
+use lib.ListN.{drop}
 use Rattle.sheet.specs.Sheet.{joined}
 use Rattle.sheet.proofs.Words.{words}
 use Rattle.sheet_writer.proofs.put_part.Given as goal
 
 abbrev pub invariant-loop-j : goal.invariant-loop-j
-invariant-loop-j l = (l.j ≤ terms) × (length l.r ≡ length l.initial.r) × (l.r ≡ joined (l.j + 1) (words l.m l.p) ++ drop ((l.j + 1) * 4) l.initial.r)
-
-abbrev pub decreases-loop-j : goal.decreases-loop-j
-decreases-loop-j l = terms - l.j
+invariant-loop-j l = l.r ≡ joined (l.j + 1) (words l.m l.p) ++ drop ((l.j + 1) * 4) l.initial.r

@@ -1,19 +1,18 @@
+use mathlib.Core.Path.{◌≡◌, refl, ap, ap₂, ◌∙◌}
+use mathlib.Core.List.{List, [], ◌∷◌, ◌++◌}
+use Prim.Native.Nat.{ℕ, ◌+◌, ◌*◌, ◌-◌, ◌/◌, ◌%◌}
 use native.Mathlib.Omega.{arith}
-use lib.ListN.{length-set}
+use lib.ListN.{take, drop}
 use Rattle.sheet.specs.Sheet.{bytes}
 use Rattle.sheet.specs.Steps.{put_word}
-use Rattle.sheet.proofs.Words.{four_stores}
 use Rattle.sheet_writer.proofs.put_word.Goals as goal
-
-pub bounds-r-at-2 : goal.bounds-r-at-2
-bounds-r-at-2 c = simp length-set (omega arith)
-
-pub bounds-r-at-3 : goal.bounds-r-at-3
-bounds-r-at-3 c = simp length-set (omega arith)
-
-pub bounds-r-at-4 : goal.bounds-r-at-4
-bounds-r-at-4 c = simp length-set (omega arith)
 
 pub returns : goal.returns
 unfolding put_word bytes
-returns c = four_stores _ _ _ _ _ _ c.requires
+returns c =
+    let a = c.args in
+    let four : a.j * 4 + 4 - a.j * 4 ≡ 4 = omega arith in
+    let third : a.w / 65536 % 256 ≡ a.w / 256 / 256 % 256 = omega arith in
+    let fourth : a.w / 16777216 % 256 ≡ a.w / 256 / 256 / 256 % 256 = omega arith in
+    let written : c.copy_from_slice.new.self ≡ bytes a.w = c.copy_from_slice.ensures.after ∙ c.to_le_bytes.ensures ∙ ap₂ (λ (k n : ℕ). a.w % 256 ∷ a.w / 256 % 256 ∷ k ∷ n ∷ []) third fourth in
+    ap₂ (λ (n : ℕ) (l : List ℕ). take (a.j * 4) a.r.now ++ (l ++ drop n (drop (a.j * 4) a.r.now))) four written

@@ -34,27 +34,27 @@ overflow_add-to c = omega (arith, c.records-n.ensures)
 
 pub slice_bounds-sheet_of-count : goal.slice_bounds-sheet_of-count
 unfolding records sheets_buffer most_sheets sheet_bytes record_bytes most_parts terms limit
-slice_bounds-sheet_of-count c = omega (arith, c.smaller-end.ensures, c.records-n.ensures)
+slice_bounds-sheet_of-count c = omega (arith, c.min-end.ensures, c.records-n.ensures)
 
 pub slice_bounds-sheet_of-start : goal.slice_bounds-sheet_of-start
 unfolding records sheets_buffer most_sheets sheet_bytes record_bytes most_parts terms limit
-slice_bounds-sheet_of-start c = omega (arith, c.smaller-end.ensures, c.records-n.ensures)
+slice_bounds-sheet_of-start c = omega (arith, c.min-end.ensures, c.records-n.ensures)
 
 pub slice_bounds-sheet_of-end : goal.slice_bounds-sheet_of-end
 unfolding records sheets_buffer most_sheets sheet_bytes record_bytes most_parts terms limit
-slice_bounds-sheet_of-end c = omega (arith, c.smaller-end.ensures, c.records-n.ensures)
+slice_bounds-sheet_of-end c = omega (arith, c.min-end.ensures, c.records-n.ensures)
 
 pub slice_bounds-sheet_of-count-in-loop-i : goal.slice_bounds-sheet_of-count-in-loop-i
 unfolding records sheets_buffer most_sheets sheet_bytes record_bytes most_parts terms limit
-slice_bounds-sheet_of-count-in-loop-i c = omega (arith, c.smaller-end.ensures, c.records-n.ensures)
+slice_bounds-sheet_of-count-in-loop-i c = omega (arith, c.min-end.ensures, c.records-n.ensures)
 
 pub slice_bounds-sheet_of-start-in-loop-i : goal.slice_bounds-sheet_of-start-in-loop-i
 unfolding records sheets_buffer most_sheets sheet_bytes record_bytes most_parts terms limit
-slice_bounds-sheet_of-start-in-loop-i c = omega (arith, c.smaller-end.ensures, c.records-n.ensures)
+slice_bounds-sheet_of-start-in-loop-i c = omega (arith, c.min-end.ensures, c.records-n.ensures)
 
 pub slice_bounds-sheet_of-end-in-loop-i : goal.slice_bounds-sheet_of-end-in-loop-i
 unfolding records sheets_buffer most_sheets sheet_bytes record_bytes most_parts terms limit
-slice_bounds-sheet_of-end-in-loop-i c = omega (arith, c.smaller-end.ensures, c.records-n.ensures)
+slice_bounds-sheet_of-end-in-loop-i c = omega (arith, c.min-end.ensures, c.records-n.ensures)
 
 pub sheet_of-requires : goal.sheet_of-requires
 unfolding records sheets_buffer most_sheets sheet_bytes record_bytes most_parts terms limit
@@ -66,7 +66,7 @@ loop-i-preserved c =
     let l = c.loop-i in
     let a = c.args in
     let e : l.i * sheet_bytes + sheet_bytes - l.i * sheet_bytes ≡ sheet_bytes = omega arith in
-    let new = subst (λ (r : List ℕ). SheetOf r c.sheet_of.new.out) (ap (λ (n : ℕ). take (n - l.i * record_bytes) (drop (l.i * record_bytes) a.s.now)) c.smaller-end.ensures ∙ cut_short (l.i * record_bytes) record_bytes a.s.now) c.sheet_of.ensures in
+    let new = subst (λ (r : List ℕ). SheetOf r c.sheet_of.new.out) (ap (λ (n : ℕ). take (n - l.i * record_bytes) (drop (l.i * record_bytes) a.s.now)) c.min-end.ensures ∙ cut_short (l.i * record_bytes) record_bytes a.s.now) c.sheet_of.ensures in
     (omega arith, search rules, begun_more a.s.now a.out.now l.i (omega (arith, c.records-n.ensures)) (search rules) l.invariant.2 new (ap (λ (n : ℕ). take (l.i * sheet_bytes) l.out ++ (c.sheet_of.new.out ++ drop n (drop (l.i * sheet_bytes) l.out))) e))
 
 pub overflow_mul-result : goal.overflow_mul-result

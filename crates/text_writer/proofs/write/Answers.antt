@@ -1,8 +1,11 @@
-use mathlib.Core.Path.{refl, ap, ◌∙◌}
+use mathlib.Core.Path.{refl, sym, ap, ◌∙◌}
+use mathlib.Core.List.{List, ◌++◌}
 use Prim.Native.Nat.{ℕ}
 use native.Mathlib.Nat.{zero-add}
 use native.Mathlib.Omega.{arith}
 use borrow.Author.Rules.{rules}
+use lib.ListN.{drop}
+use lib.Seq.{length-take-le}
 use Rattle.algebra.specs.Polynomial.{terms, limit}
 use Rattle.refusal.specs.Refusal.{Outcome}
 use Rattle.refusal.specs.Refusal.{Answered}
@@ -34,9 +37,18 @@ returns-then-area-length c =
     (refused (text-short _ _ _ (passed_on c.check_one-o.ensures c.refuses.ensures c.if-refuses.false) (omega (arith, c.if-area-length.true, c.put_text-length.ensures.end))) refl
     (c.unwritten-then-area-length.ensures ∙ ap (λ (x : Outcome). record { outcome = x; length = 0 }) c.refused.ensures))
 
-pub copy-requires : goal.copy-requires
+pub slice_bounds-text-end : goal.slice_bounds-text-end
 unfolding terms limit most_text most_term most_digits
-copy-requires c = (omega (arith, c.put_text-length.ensures.within, c.put_text-length.auto.out), omega (arith, c.if-area-length.false))
+slice_bounds-text-end c = omega (arith, c.put_text-length.ensures.within, c.put_text-length.auto.out)
+
+pub slice_bounds-copy_from_slice-end-3 : goal.slice_bounds-copy_from_slice-end-3
+unfolding terms limit most_text most_term most_digits
+slice_bounds-copy_from_slice-end-3 c = sym (length-take-le _ _ (omega (arith, c.put_text-length.ensures.within, c.put_text-length.auto.out)))
+
+pub copy_from_slice-requires : goal.copy_from_slice-requires
+unfolding terms limit most_text most_term most_digits
+copy_from_slice-requires c =
+    length-take-le _ _ c.if-area-length.false ∙ sym (length-take-le _ _ (omega (arith, c.put_text-length.ensures.within, c.put_text-length.auto.out)))
 
 pub returns : goal.returns
 unfolding terms limit most_text most_term most_digits
@@ -44,5 +56,5 @@ returns c =
     let p = c.put_text-length.ensures in
     rw (← c.modulus.ensures)
     (wrote (text-fits _ _ _ (passed_on c.check_one-o.ensures c.refuses.ensures c.if-refuses.false) (omega (arith, p.end, c.if-area-length.false)))
-    (law.copied_all _ _ _ (omega (arith, p.end, p.within)) (omega (arith, c.if-area-length.false)) p c.copy.ensures)
+    (law.copied _ _ _ (omega (arith, p.end, p.within)) p (ap (λ (l : List ℕ). l ++ drop c.put_text-length.result c.args.area.now) c.copy_from_slice.ensures.after))
     (ap (λ (n : ℕ). record { outcome = Answered; length = n }) (p.end ∙ zero-add _)))
