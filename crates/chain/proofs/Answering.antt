@@ -1,6 +1,5 @@
 -- What the code has found after each test, as the contract says it: one law for each return.
 --
---   told-short, told-refused     the refusals: 11; 1, 2, 3, 4
 --   told-found                   5, or the chain that stands in a cleared area
 --   chain_given                  what passes the checks is what the search is given
 use mathlib.Core.Path.{◌≡◌, refl, sym, ap, ◌∙◌}
@@ -25,21 +24,14 @@ use Rattle.chain.specs.Chaining.{unchained, ChainGiven, ChainFound, ChainOf}
 use Rattle.chain.specs.Chaining as of
 use Rattle.chain.proofs.Placing.{chain-full}
 
-module _ {m : ℕ} {f xs : List ℕ} where
-  pub told-short : {o : Outcome} {x : Chained} → length xs < area_words → o ≡ refusal Neither Area → x ≡ unchained o → ChainOf m f xs xs x
-  told-short l w q = of.short l refl (q ∙ ap unchained w)
+module _ {m : ℕ} {f xs ys : List ℕ} (room : area_words ≤ length xs) (passed : check_one m f ≡ Answered) where
+  -- No. 5, or the chain that stands in the cleared area
+  pub told-found : {n : ℕ} {zs : List ℕ} {x : Chained} → n ≡ degree f → zs ≡ cleared xs → ChainFound m n f zs ys x → ChainOf m f xs ys x
+  told-found n-is a (of.factor s e q) = of.shared room passed (rw (← n-is) s) (e ∙ a) q
+  told-found n-is a (of.parts {k = k} {t = t} {c = c} s p q) =
+      of.chained {parts = p.parts} {t = t} room passed (rw (← n-is) s) (rw (← n-is) p.chain)
+      (p.area ∙ ap (λ (l : List ℕ). laid p.parts ++ drop (k * terms) l) a ∙ written_is xs (sym p.count_is) (chain-full p.chain))
+      (q ∙ rw (p.count_is, p.cost_is))
 
-  module _ {ys : List ℕ} (room : area_words ≤ length xs) {o : Outcome} (is : o ≡ check_one m f) where
-    pub told-refused : {x : Chained} → is_refused o ≡ true → ys ≡ cleared xs → x ≡ unchained o → ChainOf m f xs ys x
-    told-refused t a q = let (r, w) = a_refusal o t in of.refused room (sym is ∙ w) a (q ∙ ap unchained w)
-
-    -- No. 5, or the chain that stands in the cleared area
-    pub told-found : {n : ℕ} {zs : List ℕ} {x : Chained} → is_refused o ≡ false → n ≡ degree f → zs ≡ cleared xs → ChainFound m n f zs ys x → ChainOf m f xs ys x
-    told-found passed n-is a (of.factor s e q) = of.shared room (sym is ∙ answered passed) (rw (← n-is) s) (e ∙ a) q
-    told-found passed n-is a (of.parts {k = k} {t = t} {c = c} s p q) =
-        of.chained {parts = p.parts} {t = t} room (sym is ∙ answered passed) (rw (← n-is) s) (rw (← n-is) p.chain)
-        (p.area ∙ ap (λ (l : List ℕ). laid p.parts ++ drop (k * terms) l) a ∙ written_is xs (sym p.count_is) (chain-full p.chain))
-        (q ∙ rw (p.count_is, p.cost_is))
-
-pub chain_given : {m d n : ℕ} {f xs table : List ℕ} → length f ≡ terms → check_one m f ≡ Answered → d ≡ m → n ≡ degree f → area_words ≤ length xs → table ≡ triangle rows → ChainGiven d n f xs table
-chain_given long e q n-is room b = let (w, held, two) = accepted_as n-is (accepted-one long e) in record { modulus = rw q w; whole = rw q held; two = two; room = room; binomials = b }
+pub chain_given : {m d n : ℕ} {f xs : List ℕ} → length f ≡ terms → check_one m f ≡ Answered → d ≡ m → n ≡ degree f → area_words ≤ length xs → ChainGiven d n f xs
+chain_given long e q n-is room = let (w, held, two) = accepted_as n-is (accepted-one long e) in record { modulus = rw q w; whole = rw q held; two = two; room = room }

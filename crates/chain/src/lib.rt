@@ -2,36 +2,24 @@
 #![tactic(auto)]
 
 ghost use Rattle.std.specs.Prelude.{◌≡◌, List, ℕ, ◌*◌, ◌%◌, ◌≤◌, length};
-ghost use Rattle.algebra.specs.Number.{Modulus};
 ghost use Rattle.algebra.specs.Polynomial.{degree};
 ghost use Rattle.algebra.specs.Chain.{cost as cost_of};
-ghost use Rattle.reciprocal.specs.Ready.{Ready};
 ghost use Rattle.polynomial.specs.Moduli.{modulus};
 ghost use Rattle.area.specs.Area.{area_words};
 ghost use Rattle.round.specs.Round.{ChainAsked};
-ghost use Rattle.chain.specs.Chaining.{ChainedIn, Shares, unchained as unchained_of, ChainGiven, ChainFound, ChainOf};
+ghost use Rattle.chain.specs.Chaining.{ChainedIn, chained_of, ChainGiven, ChainFound, ChainOf};
 
-use binomial::ENTRIES;
-use inverse::Inverse;
+use binomial::Table;
 use polynomial::Coefficients;
 use reciprocal::Divisor;
-use refusal::{Concerns, Outcome, Reason};
+use refusal::{Reason, Refusal};
 
-// What the chain answers: zeros after a refusal.
-#[derive(Drop)]
-pub struct Chained {
-    pub outcome: Outcome,
+// The numbers of a chain: how many parts it has, the tries and the price.
+#[derive(Clone, Copy, Default, PartialEq, Eq)]
+pub struct Numbers {
     pub parts: usize,
     pub tries: usize,
     pub price: usize,
-}
-
-// How many parts were written, their tries and their price.
-#[derive(Drop)]
-struct Counted {
-    parts: usize,
-    tries: usize,
-    price: usize,
 }
 
 // The Price rule: what a monic polynomial of degree n costs.
@@ -49,57 +37,29 @@ fn parts(
     n: usize,
     v: u32,
     area: &mut [u32],
-    table: &[u64; ENTRIES],
+    table: &Table,
     m: Divisor,
-) -> Counted
-    requires { ChainAsked m.number n f table.now × (area_words ≤ length area.old) × (n * v % m.number ≡ 1) × Ready m }
+) -> Numbers
+    requires { ChainAsked m.number n f × (area_words ≤ length area.old) × (n * v % m.number ≡ 1) }
     ensures { ChainedIn m.number n f area.old area.new result.parts result.tries result.price }
 {
-    let a = round::first_split(f, n, v, table, m);
-    if !a.found {
+    let round = round::first_split(f, n, v, table, m);
+    let Some(split) = round.split else {
         area::put(area, 0, &f);
-        return Counted {
+        return Numbers {
             parts: 1,
-            tries: a.tries,
+            tries: round.tries,
             price: cost(n),
         };
-    }
-    let s = a.at;
-    let left = a.left;
-    let right = a.right;
+    };
+    let s = split.at;
     let u = residue::multiply(v, s as u32, m);
-    let c = parts(left, n / s, u, area, table, m);
-    area::put(area, c.parts, &right);
-    let count = c.parts + 1;
-    let tries = a.tries + c.tries;
-    let price = c.price + cost(s);
-    Counted {
-        parts: count,
-        tries,
-        price,
-    }
-}
-
-// Zeros beside an outcome.
-fn unchained(outcome: Outcome) -> Chained
-    ensures { result ≡ unchained_of outcome }
-{
-    Chained {
-        outcome,
-        parts: 0,
-        tries: 0,
-        price: 0,
-    }
-}
-
-// Whether n and m share a factor above 1.
-pub fn shares(n: usize, m: u64) -> bool
-    requires { Modulus m }
-    ensures { Shares n m result }
-{
-    match inverse::invert(n as u64, m) {
-        Inverse::Of(_) => false,
-        Inverse::Shared(_) => true,
+    let left = parts(split.pair.left, n / s, u, area, table, m);
+    area::put(area, left.parts, &split.pair.right);
+    Numbers {
+        parts: left.parts + 1,
+        tries: round.tries + left.tries,
+        price: left.price + cost(s),
     }
 }
 
@@ -108,39 +68,27 @@ pub fn accepted(
     f: Coefficients,
     n: usize,
     area: &mut [u32],
-    table: &[u64; ENTRIES],
+    table: &Table,
     m: Divisor,
-) -> Chained
-    requires { ChainGiven m.number n f area.old table.now × Ready m }
-    ensures { ChainFound m.number n f area.old area.new result }
+) -> Result<Numbers, Refusal>
+    requires { ChainGiven m.number n f area.old }
+    ensures { ChainFound m.number n f area.old area.new (chained_of result) }
 {
-    let Inverse::Of(v) = inverse::invert(n as u64, m.number) else {
-        return unchained(refusal::refused(Concerns::Neither, Reason::Factor));
-    };
-    let c = parts(f, n, v, area, table, m);
-    Chained {
-        outcome: Outcome::Answered,
-        parts: c.parts,
-        tries: c.tries,
-        price: c.price,
-    }
+    let v = inverse::invert(n as u64, m.number)?;
+    Ok(parts(f, n, v, area, table, m))
 }
 
 // The operation: the chain of f, its number of parts, tries and price.
-pub fn chain(m: u32, f: Coefficients, area: &mut [u32]) -> Chained
-    ensures { ChainOf (modulus m) f area.old area.new result }
+pub fn chain(m: u32, f: Coefficients, area: &mut [u32]) -> Result<Numbers, Refusal>
+    ensures { ChainOf (modulus m) f area.old area.new (chained_of result) }
 {
     let m = polynomial::modulus(m);
     if area.len() < area::WORDS {
-        return unchained(refusal::refused(Concerns::Neither, Reason::Area));
+        return Err(Reason::Area.into());
     }
     area::clear(area);
     let n = polynomial::degree(&f);
-    let o = polynomial::check_one(m, &f, n);
-    if refusal::refuses(o) {
-        return unchained(o);
-    }
-    let d = reciprocal::made_ready(m);
-    let table = binomial::table();
-    accepted(f, n, area, &table, d)
+    polynomial::check_one(m, &f, n)?;
+    let table = Table::new();
+    accepted(f, n, area, &table, Divisor::new(m))
 }

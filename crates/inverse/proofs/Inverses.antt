@@ -2,14 +2,15 @@
 --
 --   inverse-coprime       an inverse makes a and m coprime
 --   shared_not_coprime    a shared factor rules that out
+--   inverse_found         where a and m share no factor there is an inverse
 --   inverse_unique        there is one right answer
-use mathlib.Core.Path.{◌≡◌, sym, ◌∙◌, ap}
+use mathlib.Core.Path.{◌≡◌, refl, sym, ◌∙◌, ap}
 use Prim.Native.Nat.{ℕ}
 use native.Mathlib.Nat.{one-mul, mod-eq_of_lt, dvd-mod_iff, dvd-mul_right_of_dvd, dvd_antisymm, eq-one_of_dvd-one}
 use native.Mathlib.Omega.{arith}
 use Rattle.algebra.specs.Number.{Coprime}
 use Rattle.inverse.specs.Inverse.{InverseIs}
-use Rattle.std.specs.Prelude.{Result, Ok, Err}
+use Rattle.std.specs.Prelude.{Result, Ok, Err, IsOk}
 use Rattle.inverse.specs.declared.SharedFactor.{SharedFactor}
 use Rattle.algebra.proofs.Congruent.{from_eq, reduced, turn, times, remainder, ◌then◌}
 
@@ -20,6 +21,11 @@ inverse-coprime {a} {m} {x} e = record {
 
 pub shared_not_coprime : {a m : ℕ} {d : SharedFactor} → InverseIs a m (Err d) → Coprime a m → ⊥
 shared_not_coprime {a} {m} {d} e h = omega (arith, h.only_one d.0 e.1.left e.1.right)
+
+-- where a and m share no factor above 1 there is an inverse
+pub inverse_found : {a m : ℕ} (r : Result ℕ SharedFactor) → InverseIs a m r → Coprime a m → IsOk r
+inverse_found (Ok x) e h = refl
+inverse_found (Err d) e h = absurd (shared_not_coprime e h)
 
 pub inverse_unique : (a m : ℕ) (x y : Result ℕ SharedFactor) → InverseIs a m x → InverseIs a m y → x ≡ y
 inverse_unique a m (Ok x) (Ok y) p q =

@@ -24,7 +24,7 @@ use Rattle.round.specs.Round.{ChainAsked}
 coprime_chainable : {m n : ℕ} {f : List ℕ} → 1 < m → Held m n f → 2 ≤ n → Coprime n m → Chainable m n f
 coprime_chainable {m} l held two c = record { modulus = l; whole = held; two = two; inverse = coprime-invertible m (omega arith) c }
 
-pub chainable : {m n : ℕ} {f table : List ℕ} → ChainAsked m n f table → Chainable m n f
+pub chainable : {m n : ℕ} {f : List ℕ} → ChainAsked m n f → Chainable m n f
 chainable a = coprime_chainable a.modulus.above_one a.whole a.two a.coprime
 
 pub accepted_chainable : {m : ℕ} {f : List ℕ} → Accepted m f → Coprime (degree f) m → Chainable m (degree f) f
@@ -38,23 +38,21 @@ left-coprime {m} s l c e = invertible-coprime m (omega arith) (invertible-left s
 pub inverse_next : {m n : ℕ} (r s : ℕ) {u : ℕ} (v : ℕ) → 1 < m → r * s ≡ n → n * v % m ≡ 1 → u ≡ v * s % m → r * u % m ≡ 1
 inverse_next {m} r s {u} v l e w q = ap (λ (x : ℕ). x % m) (N.mul_comm r u) ∙ inverse_left r s v l e w q ∙ N.mod-eq_of_lt l
 
-module _ {m n : ℕ} {f table : List ℕ} (a : ChainAsked m n f table) {r s : ℕ} {g h : List ℕ} (two_left : 2 ≤ r) (two_right : 2 ≤ s) (product : r * s ≡ n) (p : NormalPair m f r s g h) where
+module _ {m n : ℕ} {f : List ℕ} (a : ChainAsked m n f) {r s : ℕ} {g h : List ℕ} (two_left : 2 ≤ r) (two_right : 2 ≤ s) (product : r * s ≡ n) (p : NormalPair m f r s g h) where
   -- the left part of a pair
-  pub left_asked : ChainAsked m r g table
+  pub left_asked : ChainAsked m r g
   left_asked = record {
     modulus = a.modulus;
     whole = record { reduced = p.reduced_left; monic = p.pair.left; within = omega (arith, a.whole.within, sum-within two_left two_right product) };
     two = two_left;
     coprime = left-coprime s a.modulus.above_one a.coprime product;
-    binomials = a.binomials;
   }
 
   -- and the right part
-  pub right_asked : ChainAsked m s h table
+  pub right_asked : ChainAsked m s h
   right_asked = record {
     modulus = a.modulus;
     whole = record { reduced = p.reduced_right; monic = p.pair.right; within = omega (arith, a.whole.within, sum-within two_left two_right product) };
     two = two_right;
     coprime = left-coprime r a.modulus.above_one a.coprime (N.mul_comm s r ∙ product);
-    binomials = a.binomials;
   }

@@ -26,14 +26,18 @@ use Rattle.algebra.specs.Pair.{Pair, NormalPair, NoPair, SplitsRight}
 use Rattle.algebra.specs.Chain.{divides, tested}
 use Rattle.algebra.proofs.Chains.{splits, split_half, unsplit-at, split_at}
 use Rattle.polynomial.specs.Degrees.{Degrees}
-use Rattle.refusal.specs.Refusal.{is_refused}
+use Rattle.refusal.specs.Refusal.{Answered, Refused}
+use Rattle.refusal.specs.declared.Refusal.{Refusal}
+use Rattle.refusal.proofs.Outcomes.{never}
+use Rattle.std.specs.Prelude.{Option, Some, None, is_some}
 use Rattle.polynomial.specs.Answers.{no_parts}
 use Rattle.polynomial.specs.Answers.{Parts}
 use Rattle.right.specs.Right.{Root}
 use Rattle.pair.specs.Pairing.{SplitAsked, Opened, SplitAnswer}
 use Rattle.pair.specs.Pairing as of
 use Rattle.pair.proofs.Forcing.{root_open, root_none}
-use Rattle.round.specs.Round.{ChainAsked, Searched, Splittable}
+use Rattle.round.specs.declared.Split.{Split}
+use Rattle.round.specs.Round.{ChainAsked, FirstSplit, NoSplit, Searched, Splittable}
 use Rattle.round.proofs.Asking.{left-coprime}
 
 divides-yes : (d n : ℕ) → n % d ≡ 0 → divides d n ≡ 1
@@ -115,28 +119,29 @@ module _ {m n s t : ℕ} {f : List ℕ} (p : Passed m n f s t) where
   passed_missed h none = passed-more (λ w. none w.g w.h (split_pair w)) (omega (arith, divides-yes s n h))
 
   -- the first right degree at which f splits
-  pub passed_hit : {g h : List ℕ} → n % s ≡ 0 → Degrees n (n / s) s → NormalPair m f (n / s) s g h → Searched m n f true s (t + 1) g h
-  passed_hit e d q = record {
-    yes = λ z. record { two_left = d.two_left; two_right = d.two_right; product = d.product; first = p.none; pair = q; tries = omega (arith, counted, divides-yes s n e) };
-    no = λ z. absurd (false≢true (sym z));
-  }
+  pub passed_hit : {g h : List ℕ} → n % s ≡ 0 → Degrees n (n / s) s → NormalPair m f (n / s) s g h → FirstSplit m n f s (t + 1) g h
+  passed_hit e d q = record { two_left = d.two_left; two_right = d.two_right; product = d.product; first = p.none; pair = q; tries = omega (arith, counted, divides-yes s n e) }
 
   -- a right degree of a pair is at most n/2
-  pub passed-all : {d : ℕ} {g h : List ℕ} → n / 2 < s → s ≤ n / 2 + 1 → Searched m n f false d t g h
-  passed-all a b = record { yes = λ z. absurd (false≢true z); no = λ z. record { none = λ d w. p.none d (omega (arith, split_half w)) w; tries = p.tries ∙ ap (tested n) last } }
+  pub passed-all : n / 2 < s → s ≤ n / 2 + 1 → NoSplit m n f t
+  passed-all a b = record { none = λ d w. p.none d (omega (arith, split_half w)) w; tries = p.tries ∙ ap (tested n) last }
     where
       last : s - 1 ≡ n / 2
       last = omega arith
 
 -- so the round tells whether f splits
-pub searched_splits : {m n s t : ℕ} {f g h table : List ℕ} {b : Bool} → ChainAsked m n f table → Searched m n f b s t g h → Splittable m f b
-searched_splits {m} {s = s} {f = f} a w = record {
-  yes = λ z u. let k = w.yes z in split_at a.modulus.above_one a.whole.reduced a.whole.monic u s (splits k.two_left k.two_right k.product k.pair.pair);
-  no = λ z. unsplit-at a.modulus.above_one a.whole.reduced a.whole.monic (w.no z).none;
+pub searched_splits : {m n : ℕ} {f : List ℕ} (t : ℕ) (x : Option Split) → ChainAsked m n f → Searched m n f t x → Splittable m f (is_some x)
+searched_splits t (Some x) a k = record {
+  yes = λ z u. split_at a.modulus.above_one a.whole.reduced a.whole.monic u x.at (splits k.two_left k.two_right k.product k.pair.pair);
+  no = λ z. absurd (false≢true (sym z));
+}
+searched_splits t None a k = record {
+  yes = λ z. absurd (false≢true z);
+  no = λ z. unsplit-at a.modulus.above_one a.whole.reduced a.whole.monic k.none;
 }
 
 -- at a right degree
-module _ {m n s : ℕ} {f table : List ℕ} (a : ChainAsked m n f table) (two : 2 ≤ s) (e : n % s ≡ 0) (l : s ≤ n / 2) where
+module _ {m n s : ℕ} {f : List ℕ} (a : ChainAsked m n f) (two : 2 ≤ s) (e : n % s ≡ 0) (l : s ≤ n / 2) where
   pub asked_at : SplitAsked m n (n / s) s f
   asked_at = record { modulus = a.modulus; degrees = half_degrees two e l a.whole.within; whole = a.whole }
 
@@ -150,14 +155,18 @@ module _ {m n s : ℕ} {f table : List ℕ} (a : ChainAsked m n f table) (two : 
   none-at = root_none asked_at coprime-at
 
 -- a split that is answered has the pair
-pub hit : {m r s : ℕ} {f : List ℕ} {x : Parts} → is_refused x.outcome ≡ false → SplitAnswer m f r s x → NormalPair m f r s x.left x.right
+pub hit : {m r s : ℕ} {f g h : List ℕ} → SplitAnswer m f r s (record { outcome = Answered; left = g; right = h }) → NormalPair m f r s g h
 unfolding no_parts
-hit t (of.shared c e) = absurd (false≢true (sym t ∙ ap (λ (x : Parts). is_refused x.outcome) e))
-hit t (of.none c n e) = absurd (false≢true (sym t ∙ ap (λ (x : Parts). is_refused x.outcome) e))
-hit t (of.found c p e) = rw e p
+hit (of.shared c e) = absurd (never refl (sym (ap (λ (x : Parts). x.outcome) e)))
+hit (of.none c n e) = absurd (never refl (sym (ap (λ (x : Parts). x.outcome) e)))
+hit {m} {r} {s} {f} {g} {h} (of.found {g = k} {h = l} c p e) =
+    let left : g ≡ k = ap (λ (x : Parts). x.left) e in
+    let right : h ≡ l = ap (λ (x : Parts). x.right) e in
+    rw (left, right) p
 
 -- and one that is refused has none, where r and m share no factor
-pub miss : {m r s : ℕ} {f : List ℕ} {x : Parts} → is_refused x.outcome ≡ true → Coprime r m → SplitAnswer m f r s x → NoPair m f r s
-miss t c (of.shared d e) = absurd (d c)
-miss t c (of.none d n e) = n
-miss t c (of.found d p e) = absurd (false≢true (sym (ap (λ (x : Parts). is_refused x.outcome) e) ∙ t))
+pub miss : {m r s : ℕ} {f : List ℕ} (o : Refusal) → Coprime r m → SplitAnswer m f r s (no_parts (Refused o)) → NoPair m f r s
+unfolding no_parts
+miss o c (of.shared d e) = absurd (d c)
+miss o c (of.none d n e) = n
+miss o c (of.found d p e) = absurd (never refl (ap (λ (x : Parts). x.outcome) e))

@@ -3,22 +3,24 @@
 
 ghost use Rattle.std.specs.Prelude.{◌≡◌, ◌*◌, ◌%◌};
 ghost use Rattle.algebra.specs.Number.{Coprime, Modulus};
-ghost use Rattle.reciprocal.specs.Ready.{Ready};
 ghost use Rattle.round.specs.Round.{ChainAsked, Searched, Splittable};
 
-use binomial::ENTRIES;
-use inverse::Inverse;
-use polynomial::Coefficients;
+use binomial::Table;
+use polynomial::{Coefficients, Pair};
 use reciprocal::Divisor;
 
-// What a round over the right degrees finds: the first split, and the tries.
-#[derive(Drop)]
-pub struct Round {
-    pub found: bool,
+// A split: the right degree at which it was found, and the pair there.
+#[derive(Clone, Copy)]
+pub struct Split {
     pub at: usize,
+    pub pair: Pair,
+}
+
+// What a round over the right degrees finds: the first split, if there is one, and the tries.
+#[derive(Clone, Copy)]
+pub struct Round {
     pub tries: usize,
-    pub left: Coefficients,
-    pub right: Coefficients,
+    pub split: Option<Split>,
 }
 
 // The inverse of n, which shares no factor with m.
@@ -26,17 +28,14 @@ fn inverse(n: usize, m: u64) -> u32
     requires { Modulus m × Coprime n m }
     ensures { n * result % m ≡ 1 }
 {
-    match inverse::invert(n as u64, m) {
-        Inverse::Of(v) => v,
-        Inverse::Shared(_) => 0,
-    }
+    inverse::invert(n as u64, m).unwrap()
 }
 
 // The round: each right degree from 2 to n / 2 that divides n, until f splits. v is the inverse of n. At each the quick question's
 // first step is asked, the root, and the split is carried out only where it leaves a pair open.
-pub fn first_split(f: Coefficients, n: usize, v: u32, table: &[u64; ENTRIES], m: Divisor) -> Round
-    requires { ChainAsked m.number n f table.now × (n * v % m.number ≡ 1) × Ready m }
-    ensures { Searched m.number n f result.found result.at result.tries result.left result.right }
+pub fn first_split(f: Coefficients, n: usize, v: u32, table: &Table, m: Divisor) -> Round
+    requires { ChainAsked m.number n f × (n * v % m.number ≡ 1) }
+    ensures { Searched m.number n f result.tries result.split }
 {
     let mut rows = [0; right::WORDS];
     let mut tries = 0;
@@ -48,35 +47,21 @@ pub fn first_split(f: Coefficients, n: usize, v: u32, table: &[u64; ENTRIES], m:
         if !pair::is_open(&mut rows, &f, n, n / s, s, v, table, m) {
             continue;
         }
-        let a = pair::split_open(f, &rows, n, n / s, s, m);
-        let o = a.outcome;
-        if !refusal::refuses(o) {
-            let left = a.left;
-            let right = a.right;
+        if let Ok(pair) = pair::split_open(f, &rows, n, n / s, s, m) {
             return Round {
-                found: true,
-                at: s,
                 tries,
-                left,
-                right,
+                split: Some(Split { at: s, pair }),
             };
         }
     }
-    Round {
-        found: false,
-        at: 0,
-        tries,
-        left: f,
-        right: f,
-    }
+    Round { tries, split: None }
 }
 
 // Whether f splits.
-pub fn splits(f: Coefficients, n: usize, table: &[u64; ENTRIES], m: Divisor) -> bool
-    requires { ChainAsked m.number n f table.now × Ready m }
+pub fn splits(f: Coefficients, n: usize, table: &Table, m: Divisor) -> bool
+    requires { ChainAsked m.number n f }
     ensures { Splittable m.number f result }
 {
     let v = inverse(n, m.number);
-    let a = first_split(f, n, v, table, m);
-    a.found
+    first_split(f, n, v, table, m).split.is_some()
 }

@@ -11,80 +11,80 @@ use Rattle.chain.proofs.Placing.{chained-whole, chained_more, chained-within, ne
 use Rattle.chain.proofs.+parts.Goals as goal
 
 -- f does not split
-pub returns-then-not-a : goal.returns-then-not-a
-returns-then-not-a t c =
+pub returns-in_default : goal.returns-in_default
+returns-in_default t c =
     let w = c.requires.0 in
-    rw c.put.ensures (chained-whole _ w.whole.monic w.whole.reduced (c.first_split-a.ensures.no (not-true _ c.if-not-a.true)) (c.cost.ensures _ (degree-monic w.modulus.above_one w.whole.reduced w.whole.monic)))
+    rw c.put.ensures (chained-whole _ w.whole.monic w.whole.reduced (rw c.in_default.is at c.first_split-round.ensures) (c.cost.ensures _ (degree-monic w.modulus.above_one w.whole.reduced w.whole.monic)))
 
 -- and fits a word
 pub overflow_cast-s : goal.overflow_cast-s
 unfolding limit
 overflow_cast-s t c =
     let p = c.requires in
-    let z = c.first_split-a.ensures.yes (not-false _ c.if-not-a.false) in
+    let z = rw c.in-Some.is at c.first_split-round.ensures in
     record { fits = omega (arith, p.0.whole.within, sum-within z.two_left z.two_right z.product) }
 
 -- a right degree is not 0
 pub nonzero_div-n : goal.nonzero_div-n
 nonzero_div-n t c =
-    let z = c.first_split-a.ensures.yes (not-false _ c.if-not-a.false) in
+    let z = rw c.in-Some.is at c.first_split-round.ensures in
     omega (arith, z.two_right)
 
-pub parts-c-requires : goal.parts-c-requires
-parts-c-requires t c =
+pub parts-left-requires : goal.parts-left-requires
+parts-left-requires t c =
     let p = c.requires in
-    let z = c.first_split-a.ensures.yes (not-false _ c.if-not-a.false) in
+    let z = rw c.in-Some.is at c.first_split-round.ensures in
     let l = left_less z in
-    (omega arith, (left_asked p.0 z.two_left z.two_right z.product z.pair, p.1, inverse_next _ _ _ p.0.modulus.above_one z.product p.2 c.multiply-u.ensures, p.3))
+    (omega arith, (left_asked p.0 z.two_left z.two_right z.product z.pair, p.1, inverse_next _ _ _ p.0.modulus.above_one z.product p.2 c.multiply-u.ensures))
 
 pub slice_bounds-put-end-2 : goal.slice_bounds-put-end-2
 unfolding terms limit
 slice_bounds-put-end-2 t c =
-    let z = c.first_split-a.ensures.yes (not-false _ c.if-not-a.false) in
+    let z = rw c.in-Some.is at c.first_split-round.ensures in
     sym z.pair.reduced_right.long
 
 -- there is a next place
 pub put-requires-2 : goal.put-requires-2
 put-requires-2 t c =
     let p = c.requires in
-    let z = c.first_split-a.ensures.yes (not-false _ c.if-not-a.false) in
-    (omega (arith, next_place z c.parts-c.ensures p.0.two p.0.whole.within), omega arith, z.pair.reduced_right.long)
+    let z = rw c.in-Some.is at c.first_split-round.ensures in
+    (omega (arith, next_place z c.parts-left.ensures p.0.two p.0.whole.within), omega arith, z.pair.reduced_right.long)
 
-pub overflow_add-count : goal.overflow_add-count
+pub overflow_add-result : goal.overflow_add-result
 unfolding most_parts
-overflow_add-count t c =
+overflow_add-result t c =
     let p = c.requires in
-    let z = c.first_split-a.ensures.yes (not-false _ c.if-not-a.false) in
-    omega (arith, next_place z c.parts-c.ensures p.0.two p.0.whole.within)
+    let z = rw c.in-Some.is at c.first_split-round.ensures in
+    omega (arith, next_place z c.parts-left.ensures p.0.two p.0.whole.within)
 
 -- tries and price are at most n
-pub overflow_add-tries : goal.overflow_add-tries
+pub overflow_add-result-2 : goal.overflow_add-result-2
 unfolding limit
-overflow_add-tries t c =
+overflow_add-result-2 t c =
     let p = c.requires in
-    let z = c.first_split-a.ensures.yes (not-false _ c.if-not-a.false) in
-    omega (arith, p.0.whole.within, (chained-within p.0.modulus.above_one (chained_more z c.parts-c.ensures refl)).0)
+    let z = rw c.in-Some.is at c.first_split-round.ensures in
+    omega (arith, p.0.whole.within, (chained-within p.0.modulus.above_one (chained_more z c.parts-left.ensures refl)).0)
 
 pub cost-requires-2 : goal.cost-requires-2
 cost-requires-2 t c =
-    let z = c.first_split-a.ensures.yes (not-false _ c.if-not-a.false) in
+    let z = rw c.in-Some.is at c.first_split-round.ensures in
     omega (arith, z.two_right)
 
-pub overflow_add-price : goal.overflow_add-price
+pub overflow_add-result-3 : goal.overflow_add-result-3
 unfolding limit
-overflow_add-price t c =
+overflow_add-result-3 t c =
     let p = c.requires in
-    let z = c.first_split-a.ensures.yes (not-false _ c.if-not-a.false) in
+    let z = rw c.in-Some.is at c.first_split-round.ensures in
     let d = c.cost-2.ensures _ (degree-monic p.0.modulus.above_one z.pair.reduced_right z.pair.pair.right) in
-    omega (arith, p.0.whole.within, (chained-within p.0.modulus.above_one (chained_more z c.parts-c.ensures d)).1)
+    omega (arith, p.0.whole.within, (chained-within p.0.modulus.above_one (chained_more z c.parts-left.ensures d)).1)
 
 -- the parts of the left part, and the right part
 pub returns : goal.returns
 returns t c =
     let p = c.requires in
-    let z = c.first_split-a.ensures.yes (not-false _ c.if-not-a.false) in
+    let z = rw c.in-Some.is at c.first_split-round.ensures in
     let d = c.cost-2.ensures _ (degree-monic p.0.modulus.above_one z.pair.reduced_right z.pair.pair.right) in
-    rw c.put-2.ensures (chained_more z c.parts-c.ensures d)
+    rw c.put-2.ensures (chained_more z c.parts-left.ensures d)
 
 pub put-requires : goal.put-requires
 unfolding terms limit most_parts area_words

@@ -1,20 +1,22 @@
-use mathlib.Core.Path.{refl, ap, ◌∙◌}
+use mathlib.Core.Path.{◌≡◌, refl}
+use borrow.Author.Rules.{rules}
+use Rattle.std.specs.Prelude.{Err}
+use Rattle.refusal.specs.Refusal.{naming_none}
+use Rattle.refusal.specs.declared.Reason.TheVariants.{Factor}
 use Rattle.inverse.proofs.Inverses.{inverse-coprime, shared_not_coprime}
-use Rattle.chain.specs.Chaining.{factor, parts, unchained}
+use Rattle.chain.specs.Chaining.{factor, parts}
 use Rattle.chain.proofs.accepted.Goals as goal
 
-pub invert-requires : goal.invert-requires
-invert-requires c = c.requires.0.modulus
-
 -- No. 5
-pub returns-in_default : goal.returns-in_default
-returns-in_default c = factor (shared_not_coprime (rw c.in_default.is at c.invert.ensures)) refl (c.unchained.ensures ∙ ap unchained c.refused.ensures)
+pub returns-in_err-v : goal.returns-in_err-v
+returns-in_err-v c =
+    let e : c.from_residual.result ≡ Err (naming_none Factor) = search rules in
+    rw e (factor (shared_not_coprime c.in_err-v.ensures) refl refl)
 
-pub parts-c-requires : goal.parts-c-requires
-parts-c-requires c =
-    let p = c.requires.0 in
-    let i = rw c.in-Of.is at c.invert.ensures in
-    (record { modulus = p.modulus; whole = p.whole; two = p.two; coprime = inverse-coprime i; binomials = p.binomials }, p.room, i.1, c.requires.1)
+pub parts-requires : goal.parts-requires
+parts-requires c =
+    let p = c.requires in
+    (record { modulus = p.modulus; whole = p.whole; two = p.two; coprime = inverse-coprime c.in_ok-v.ensures }, p.room, c.in_ok-v.ensures.1)
 
 pub returns : goal.returns
-returns c = parts (inverse-coprime (rw c.in-Of.is at c.invert.ensures)) c.parts-c.ensures refl
+returns c = parts (inverse-coprime c.in_ok-v.ensures) c.parts.ensures refl

@@ -27,7 +27,7 @@ unfolding terms limit
 slice_bounds-is_open-end-in-loop-s c = sym c.requires.0.whole.reduced.long
 
 pub is_open-requires : goal.is_open-requires
-is_open-requires c = (asked_at c.requires.0 c.loop-s.invariant.0.two c.if-n-s-ne0.false (omega arith), c.requires.0.binomials, c.requires.1, c.loop-s.invariant.2, c.requires.2)
+is_open-requires c = (asked_at c.requires.0 c.loop-s.invariant.0.two c.if-n-s-ne0.false (omega arith), c.requires.1, c.loop-s.invariant.2)
 
 -- the quick question says no
 pub loop-s-preserved-then-not-is_open : goal.loop-s-preserved-then-not-is_open
@@ -37,15 +37,15 @@ pub slice_bounds-split_open-end : goal.slice_bounds-split_open-end
 unfolding words terms limit
 slice_bounds-split_open-end c = sym c.is_open.ensures.room.long
 
-pub split_open-a-requires : goal.split_open-a-requires
-split_open-a-requires c = (open_at c.requires.0 c.loop-s.invariant.0.two c.if-n-s-ne0.false (omega arith) c.is_open.ensures, c.requires.2)
+pub split_open-requires : goal.split_open-requires
+split_open-requires c = open_at c.requires.0 c.loop-s.invariant.0.two c.if-n-s-ne0.false (omega arith) c.is_open.ensures
 
-pub returns-then-not-refuses : goal.returns-then-not-refuses
-returns-then-not-refuses c = passed_hit c.loop-s.invariant.0 c.if-n-s-ne0.false (asked_at c.requires.0 c.loop-s.invariant.0.two c.if-n-s-ne0.false (omega arith)).degrees (hit (sym c.refuses.ensures ∙ c.if-not-refuses.true) c.split_open-a.ensures)
+pub returns-in-Ok : goal.returns-in-Ok
+returns-in-Ok c = passed_hit c.loop-s.invariant.0 c.if-n-s-ne0.false (asked_at c.requires.0 c.loop-s.invariant.0.two c.if-n-s-ne0.false (omega arith)).degrees (hit c.in-Ok.ensures)
 
 -- it left a pair open, and there is none
 pub loop-s-preserved : goal.loop-s-preserved
-loop-s-preserved c = (passed_missed c.loop-s.invariant.0 c.if-n-s-ne0.false (miss (sym c.refuses.ensures ∙ c.if-not-refuses.false) (coprime-at c.requires.0 c.loop-s.invariant.0.two c.if-n-s-ne0.false (omega arith)) c.split_open-a.ensures), omega arith, c.is_open.ensures.room)
+loop-s-preserved c = (passed_missed c.loop-s.invariant.0 c.if-n-s-ne0.false (miss _ (coprime-at c.requires.0 c.loop-s.invariant.0.two c.if-n-s-ne0.false (omega arith)) c.in_default.ensures), omega arith, c.is_open.ensures.room)
 
 pub returns : goal.returns
 returns c = passed-all c.loop-s.invariant.0 (omega arith) (omega arith)
