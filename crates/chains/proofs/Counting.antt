@@ -5,11 +5,12 @@
 --   none-listed                        none of them
 --   below_none, below_pass, below-take     none is below 2; none at s; those at s are the chains of the left part
 --   below-few                          the count fits a word
---   counted_one, counted_all           past n/2: none was found, and f is its only chain; or those that were found are all
-use mathlib.Core.Path.{◌≡◌, refl}
+--   counted_one, counted_all, counted  past n/2: none was found, and f is its only chain; or those that were found are all
+use mathlib.Core.Path.{◌≡◌, refl, subst}
 use mathlib.Core.List.{List, [], ◌∷◌, ◌++◌, map}
-use Prim.Native.Nat.{ℕ, ◌+◌, ◌*◌, ◌/◌, ◌%◌, ◌≤◌, ◌<◌}
+use Prim.Native.Nat.{ℕ, ◌+◌, ◌*◌, ◌/◌, ◌%◌, ◌≤◌, ◌<◌, max}
 use native.Mathlib.Nat as N
+use native.Mathlib.Decide.{dec_lt}
 use native.Mathlib.Omega.{arith}
 use lib.ListN.{length, length-append, length-map}
 use Rattle.algebra.specs.Polynomial.{limit, degree}
@@ -71,3 +72,11 @@ module _ {m n : ℕ} {f : List ℕ} (t : Chainable m n f) where
   -- those that were found are all
   pub counted_all : {s c : ℕ} → n / 2 < s → 0 < c → Below m f s c → HasChains m f c
   counted_all half found p = record { chains = p.chains; every = E.every-below t half (omega (arith, p.is)) p.lists; is = p.is }
+
+  -- either way
+  pub counted : {s c : ℕ} → n / 2 < s → Below m f s c → HasChains m f (max c 1)
+  counted {s} {c} half p = go (dec_lt 0 c)
+    where
+      go : Dec (0 < c) → HasChains m f (max c 1)
+      go (yes l) = subst (λ (k : ℕ). HasChains m f k) (omega arith) (counted_all half l p)
+      go (no l) = subst (λ (k : ℕ). HasChains m f k) (omega arith) (counted_one half (subst (λ (k : ℕ). Below m f s k) (omega arith) p))

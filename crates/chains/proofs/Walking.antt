@@ -4,13 +4,11 @@
 --   Gone m f s j i                   all chains with a rightmost degree below s come before the j-th, and i more
 --   gone_none, gone_pass, gone_take  none is below 2; none at s; those at s come before it too
 --   nth-within                       a complete chain fits the area, and its price is at most n
---   walked_yes, walked_no            what the walk says, by its test
 --   room_next, more-price            the j-th chain of f fits the area and a word: there is a place for the right part
 --   reached-more                     the i-th chain of the left part, and the right part in that place: the j-th chain of f
 --   all-passed                       past n/2: those that were passed are all
 --   one-passed, reached-one          none was passed, and f is its only chain: not the j-th; the j-th
 use mathlib.Core.Path.{◌≡◌, refl, sym, ap, subst, ◌∙◌}
-use mathlib.Core.Bool.{true, false, false≢true}
 use mathlib.Core.List.{List, [], ◌∷◌, ◌++◌}
 use Prim.Native.Nat.{ℕ, ◌+◌, ◌*◌, ◌-◌, ◌/◌, ◌≤◌, ◌<◌}
 use native.Mathlib.Nat as N
@@ -28,8 +26,7 @@ use Rattle.area.proofs.Laying.{Full, laid_none, put_next}
 use Rattle.area.proofs.Reading.{part_fills, fills_full}
 use Rattle.chain.proofs.Placing.{places_enough}
 use Rattle.ending.specs.Ending.{Rightmost}
-use Rattle.chains.specs.declared.Reach.{Reach}
-use Rattle.chains.specs.Walking.{HasChains, NthIn, NoNth, reached, passed, Walked, yes, no}
+use Rattle.chains.specs.Walking.{HasChains, NthIn, NoNth}
 use Rattle.chains.proofs.Counting.{Below, below_none, below_pass, below-take, none-listed, counted_one, counted_all}
 
 -- every part fills its place
@@ -68,16 +65,6 @@ module _ {m n : ℕ} {f : List ℕ} (t : Chainable m n f) where
     area = ap (λ (k : ℕ). put_at (drop k xs) 0 f) (sym (N.zero-mul terms)) ∙ put_next xs f refl laid_none;
   }
 
--- what the walk says, by its test
-module _ {m j : ℕ} {f xs ys : List ℕ} {a : Reach} where
-  pub walked_yes : a.found ≡ true → Walked m f j xs ys a → NthIn m f j xs ys a.parts a.price
-  walked_yes z (yes q e) = rw e q
-  walked_yes z (no q e) = absurd (false≢true (sym (ap (λ (a : Reach). a.found) e) ∙ z))
-
-  pub walked_no : a.found ≡ false → Walked m f j xs ys a → NoNth m f j xs ys a.number
-  walked_no z (yes q e) = absurd (false≢true (sym z ∙ ap (λ (a : Reach). a.found) e))
-  walked_no z (no q e) = rw e q
-
 module _ {m n s j i : ℕ} {f g h : List ℕ} (t : Chainable m n f) (p : Gone m f s j i) (z : Rightmost m n f s g h) {xs ys : List ℕ} {k c : ℕ} (q : NthIn m g i xs ys k c) where
   more : NthChain m f j (h ∷ q.parts)
   more = subst (λ (d : ℕ). NthChain m f d (h ∷ q.parts)) (omega (arith, p.is, p.below.is)) (E.nth-more t z.two_left z.two_right z.product z.pair z.unsplit p.below.lists q.nth)
@@ -104,21 +91,21 @@ module _ {m n s j i : ℕ} {f g h : List ℕ} (t : Chainable m n f) (p : Gone m 
   more-price e = omega (arith, e, q.cost_is, (nth-within t more.complete).1)
 
   -- so the j-th chain of f is laid over the area as it was
-  pub reached-more : {xs₀ zs : List ℕ} {d : ℕ} {a : Reach} → xs ≡ xs₀ → d ≡ cost h → zs ≡ put_at ys k h → a ≡ reached (k + 1) (c + d) → Walked m f j xs₀ zs a
-  reached-more {zs = zs} {d = d} same e put is = yes (subst (λ (l : List ℕ). NthIn m f j l zs (k + 1) (c + d)) same (subst (λ (l : List ℕ). NthIn m f j xs l (k + 1) (c + d)) (sym put) (more_in e))) is
+  pub reached-more : {xs₀ zs : List ℕ} {d : ℕ} → xs ≡ xs₀ → d ≡ cost h → zs ≡ put_at ys k h → NthIn m f j xs₀ zs (k + 1) (c + d)
+  reached-more {zs = zs} {d = d} same e put = subst (λ (l : List ℕ). NthIn m f j l zs (k + 1) (c + d)) same (subst (λ (l : List ℕ). NthIn m f j xs l (k + 1) (c + d)) (sym put) (more_in e))
 
-module _ {m n s j i : ℕ} {f xs ys : List ℕ} {a : Reach} (t : Chainable m n f) (half : n / 2 < s) (p : Gone m f s j i) (same : ys ≡ xs) where
+module _ {m n s j i : ℕ} {f xs ys : List ℕ} (t : Chainable m n f) (half : n / 2 < s) (p : Gone m f s j i) (same : ys ≡ xs) where
   -- those that were passed are all
-  pub all-passed : i < j → a ≡ passed (j - i) → Walked m f j xs ys a
-  all-passed l e = no {number = j - i} (record { has = counted_all t half (omega arith) (subst (λ (k : ℕ). Below m f s k) (omega (arith, p.is)) p.below); most = omega arith; area = same }) e
+  pub all-passed : i < j → NoNth m f j xs ys (j - i)
+  all-passed l = record { has = counted_all t half (omega arith) (subst (λ (k : ℕ). Below m f s k) (omega (arith, p.is)) p.below); most = omega arith; area = same }
 
   -- none was passed
-  pub one-passed : j ≤ i → 0 < j → a ≡ passed 1 → Walked m f j xs ys a
-  one-passed l k e = no {number = 1} (record { has = counted_one t half (subst (λ (k : ℕ). Below m f s k) (omega (arith, p.is)) p.below); most = omega arith; area = same }) e
+  pub one-passed : j ≤ i → 0 < j → NoNth m f j xs ys 1
+  one-passed l k = record { has = counted_one t half (subst (λ (k : ℕ). Below m f s k) (omega (arith, p.is)) p.below); most = omega arith; area = same }
 
   -- and f itself is the first
-  pub reached-one : {zs : List ℕ} {d : ℕ} → j ≤ i → j ≤ 0 → d ≡ cost f → zs ≡ put_at ys 0 f → a ≡ reached 1 d → Walked m f j xs zs a
-  reached-one {zs} {d} l z e put is = yes (subst (λ (l : List ℕ). NthIn m f j l zs 1 d) same (subst (λ (l : List ℕ). NthIn m f j ys l 1 d) (sym put) (one_in t half none z ys e))) is
+  pub reached-one : {zs : List ℕ} {d : ℕ} → j ≤ i → j ≤ 0 → d ≡ cost f → zs ≡ put_at ys 0 f → NthIn m f j xs zs 1 d
+  reached-one {zs} {d} l z e put = subst (λ (l : List ℕ). NthIn m f j l zs 1 d) same (subst (λ (l : List ℕ). NthIn m f j ys l 1 d) (sym put) (one_in t half none z ys e))
     where
       none : Below m f s 0
       none = subst (λ (k : ℕ). Below m f s k) (omega (arith, p.is)) p.below

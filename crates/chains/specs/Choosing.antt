@@ -1,23 +1,32 @@
 -- The operations: the number of complete chains, and the j-th of them.
 --
+--   Numbered, Chosen               what they return: an outcome beside numbers
+--   numbered_of x, chosen_of x     what is returned for the result x of the code
 --   unnumbered o, unchosen o       the outcome o beside zeros, as after a refusal
 --   NumberOf m f x                 x answers: the number of complete chains of f
 --   NthOf m f j xs ys x            x answers: the j-th, from 0; xs is the area before, ys the area afterwards
-use Rattle.std.specs.Prelude.{◌≡◌, List, ℕ, ◌≤◌, ◌<◌, length}
+use Rattle.std.specs.Prelude.{◌≡◌, Result, Ok, Err, List, ℕ, ◌≤◌, ◌<◌, length}
 use Rattle.algebra.specs.Number.{Coprime}
 use Rattle.algebra.specs.Polynomial.{degree}
 use Rattle.algebra.specs.Chain.{price}
 use Rattle.algebra.specs.Every.{EveryChain, NthChain}
-use Rattle.refusal.specs.Refusal.{refusal}
+use Rattle.refusal.specs.Refusal.{Outcome, Answered, Refused, refusal}
 use Rattle.refusal.specs.declared.Refusal.{Refusal}
 use Rattle.refusal.specs.declared.Concerns.TheVariants.{Neither}
 use Rattle.refusal.specs.declared.Reason.TheVariants.{Factor, Area, Beyond}
-use Rattle.refusal.specs.Refusal.{Outcome}
-use Rattle.refusal.specs.Refusal.{Answered, Refused}
 use Rattle.polynomial.specs.Checks.{check_one}
 use Rattle.area.specs.Area.{area_words, cleared, written}
-use Rattle.chains.specs.Choosing.{Numbered}
-use Rattle.chains.specs.Choosing.{Chosen}
+use Rattle.chains.specs.declared.Numbers.{Numbers}
+
+-- what the number of chains returns, and what the j-th chain returns beside the area
+pub record Numbered : Type 0 where
+  pub outcome : Outcome
+  pub number : ℕ
+
+pub record Chosen : Type 0 where
+  pub outcome : Outcome
+  pub parts : ℕ
+  pub price : ℕ
 
 -- zero beside an outcome
 abbrev pub unnumbered : Outcome → Numbered
@@ -26,6 +35,15 @@ unnumbered o = record { outcome = o; number = 0 }
 -- zeros beside an outcome
 abbrev pub unchosen : Outcome → Chosen
 unchosen o = record { outcome = o; parts = 0; price = 0 }
+
+-- what is returned for the result x of the code: its numbers, or zeros beside the refusal
+abbrev pub numbered_of : Result ℕ Refusal → Numbered
+numbered_of (Ok k) = record { outcome = Answered; number = k }
+numbered_of (Err r) = unnumbered (Refused r)
+
+abbrev pub chosen_of : Result Numbers Refusal → Chosen
+chosen_of (Ok x) = record { outcome = Answered; parts = x.parts; price = x.price }
+chosen_of (Err r) = unchosen (Refused r)
 
 -- 1, 2, 3, 4, then 5 if n and m share a factor; else the number
 pub data NumberOf (m : ℕ) (f : List ℕ) (x : Numbered) : Type 0 where

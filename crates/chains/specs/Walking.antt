@@ -3,14 +3,13 @@
 --   HasChains m f c                  f has c complete chains
 --   NthIn m f j xs ys k c            the j-th chain of f stands in the first k places of ys, with its price c
 --   NoNth m f j xs ys c              f has c complete chains, which are not more than j, and nothing was written
---   reached k c, passed c            how a j-th chain is answered, and that there is none
---   Walked m f j xs ys a             what the walk to the j-th chain finds
-use Rattle.std.specs.Prelude.{◌≡◌, true, false, List, ◌++◌, ℕ, ◌*◌, ◌≤◌, length, drop}
+--   Walked m f j xs ys x             what the walk to the j-th chain finds
+use Rattle.std.specs.Prelude.{◌≡◌, Result, Ok, Err, List, ◌++◌, ℕ, ◌*◌, ◌≤◌, length, drop}
 use Rattle.algebra.specs.Polynomial.{terms}
 use Rattle.algebra.specs.Chain.{price}
 use Rattle.algebra.specs.Every.{EveryChain, NthChain}
 use Rattle.area.specs.Area.{laid}
-use Rattle.chains.specs.declared.Reach.{Reach}
+use Rattle.chains.specs.declared.Numbers.{Numbers}
 
 -- the list of all of them has length c
 pub record HasChains (m : ℕ) (f : List ℕ) (c : ℕ) : Type 0 where
@@ -32,15 +31,7 @@ pub record NoNth (m : ℕ) (f : List ℕ) (j : ℕ) (xs ys : List ℕ) (number :
   pub most : number ≤ j
   pub area : ys ≡ xs
 
--- the j-th chain was reached
-abbrev pub reached : ℕ → ℕ → Reach
-reached count cost = record { found = true; number = 0; parts = count; price = cost }
-
--- there is no j-th, and all were passed
-abbrev pub passed : ℕ → Reach
-passed number = record { found = false; number = number; parts = 0; price = 0 }
-
--- a yes with the j-th chain, a no with how many there are; zeros beside them
-pub data Walked (m : ℕ) (f : List ℕ) (j : ℕ) (xs ys : List ℕ) (a : Reach) : Type 0 where
-  yes : {count cost : ℕ} → NthIn m f j xs ys count cost → a ≡ reached count cost → Walked m f j xs ys a
-  no : {number : ℕ} → NoNth m f j xs ys number → a ≡ passed number → Walked m f j xs ys a
+-- the j-th chain, or how many there are
+abbrev pub Walked : ℕ → List ℕ → ℕ → List ℕ → List ℕ → Result Numbers ℕ → Type 0
+Walked m f j xs ys (Ok x) = NthIn m f j xs ys x.parts x.price
+Walked m f j xs ys (Err c) = NoNth m f j xs ys c

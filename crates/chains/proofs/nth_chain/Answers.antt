@@ -1,73 +1,71 @@
-use mathlib.Core.Path.{sym, ◌∙◌}
+use mathlib.Core.Path.{◌≡◌, refl, sym, ◌∙◌}
 use native.Mathlib.Omega.{arith}
 use borrow.Author.Rules.{rules}
-use borrow.Author.Tests.{not-true, not-false}
+use Rattle.std.specs.Prelude.{Err}
+use Rattle.refusal.specs.Refusal.{naming_none}
+use Rattle.refusal.specs.declared.Reason.TheVariants.{Factor}
 use Rattle.algebra.specs.Polynomial.{terms, limit}
-use Rattle.refusal.proofs.Outcomes.{answered}
 use Rattle.polynomial.proofs.Acceptance.{accepted-modulus, accepted-one, accepted-above, accepted_as}
+use Rattle.inverse.proofs.Inverses.{inverse-coprime, shared_not_coprime}
 use Rattle.area.specs.Area.{most_parts, area_words}
-use Rattle.chains.proofs.Walking.{walked_yes, walked_no}
-use Rattle.chains.proofs.Answering.{nth-short, nth_refused, nth-shared, nth_beyond, nth-told}
+use Rattle.chains.specs.Choosing.{short, refused, shared}
+use Rattle.chains.proofs.Answering.{nth_beyond, nth-told}
 use Rattle.chains.proofs.nth_chain.Goals as goal
 
 -- No. 11
 pub returns-then-area-lt-WORDS : goal.returns-then-area-lt-WORDS
 unfolding terms limit most_parts area_words
-returns-then-area-lt-WORDS c = nth-short c.if-area-lt-WORDS.true c.refused.ensures c.unchosen.ensures
+returns-then-area-lt-WORDS c = rw c.into.ensures (short c.if-area-lt-WORDS.true refl refl)
 
-pub check_one-o-requires : goal.check_one-o-requires
+pub clear-requires : goal.clear-requires
+unfolding terms limit most_parts area_words
+clear-requires c = search rules
+
+pub check_one-requires : goal.check_one-requires
 unfolding terms limit
-check_one-o-requires c = record { long = omega arith; is = c.degree-n.ensures }
+check_one-requires c = record { long = omega arith; is = c.degree-n.ensures }
 
 -- Nos. 1 to 4
-pub returns-then-refuses : goal.returns-then-refuses
+pub returns-in_err-check_one : goal.returns-in_err-check_one
 unfolding terms limit most_parts area_words
-returns-then-refuses c =
-    rw (← c.modulus-m.ensures) (nth_refused c.if-area-lt-WORDS.false c.check_one-o.ensures (sym c.refuses.ensures ∙ c.if-refuses.true) c.clear.ensures c.unchosen-then-refuses.ensures)
-
-pub shares-requires : goal.shares-requires
-unfolding terms limit
-shares-requires e =
-    accepted-modulus (accepted-one (omega arith) (sym e.check_one-o.ensures ∙ answered (sym e.refuses.ensures ∙ e.if-refuses.false))).modulus
-
--- No. 5
-pub returns-then-shares : goal.returns-then-shares
-unfolding terms limit most_parts area_words
-returns-then-shares c =
-    rw (← c.modulus-m.ensures)
-    (nth-shared c.if-area-lt-WORDS.false c.check_one-o.ensures (sym c.refuses.ensures ∙ c.if-refuses.false) c.degree-n.ensures c.shares.ensures c.if-shares.true c.clear.ensures c.refused-then-shares.ensures c.unchosen-then-shares.ensures)
+returns-in_err-check_one c =
+    let e : c.from_residual.result ≡ Err c.in_err-check_one.field-0.0 = search rules in
+    rw (e, ← c.modulus-m.ensures) (refused c.if-area-lt-WORDS.false (sym c.check_one.ensures ∙ c.in_err-check_one.was) c.clear.ensures refl)
 
 -- the modulus passed No. 1
-pub made_ready-d-requires : goal.made_ready-d-requires
+pub invert-requires : goal.invert-requires
 unfolding terms limit
-made_ready-d-requires c =
-    accepted-modulus (accepted-one (omega arith) (sym c.check_one-o.ensures ∙ answered (sym c.refuses.ensures ∙ c.if-refuses.false))).modulus
+invert-requires c = accepted-modulus (accepted-one (omega arith) (sym c.check_one.ensures ∙ c.in_ok-check_one.was)).modulus
 
-pub walk-a-requires : goal.walk-a-requires
+-- No. 5
+pub returns-in_err-invert : goal.returns-in_err-invert
 unfolding terms limit most_parts area_words
-walk-a-requires c =
-    let a = sym c.check_one-o.ensures ∙ answered (sym c.refuses.ensures ∙ c.if-refuses.false) in
-    let (w, held, two) = accepted_as c.degree-n.ensures (accepted-one (omega arith) a) in
-    let d = c.made_ready-d.ensures in
-    (record { modulus = d.1.modulus; whole = rw d.0 held; two = two; coprime = rw d.0 (c.shares.ensures.no c.if-shares.false); binomials = c.table-table.ensures }, omega arith, d.1)
+returns-in_err-invert c =
+    let e : c.from_residual-in_err-invert.result ≡ Err (naming_none Factor) = search rules in
+    rw (e, ← c.modulus-m.ensures)
+    (shared c.if-area-lt-WORDS.false (sym c.check_one.ensures ∙ c.in_ok-check_one.was) (rw c.degree-n.ensures at (shared_not_coprime c.in_err-invert.ensures)) c.clear.ensures refl)
+
+pub new-requires : goal.new-requires
+unfolding terms limit
+new-requires c = accepted-modulus (accepted-one (omega arith) (sym c.check_one.ensures ∙ c.in_ok-check_one.was)).modulus
+
+pub walk-requires : goal.walk-requires
+unfolding terms limit most_parts area_words
+walk-requires c =
+    let (w, held, two) = accepted_as c.degree-n.ensures (accepted-one (omega arith) (sym c.check_one.ensures ∙ c.in_ok-check_one.was)) in
+    (rw c.new.ensures (record { modulus = w; whole = held; two = two; coprime = inverse-coprime c.in_ok-invert.ensures }), omega arith)
 
 -- No. 18
-pub returns-then-not-a : goal.returns-then-not-a
+pub returns-in_default : goal.returns-in_default
 unfolding terms limit most_parts area_words
-returns-then-not-a c =
-    rw (← c.modulus-m.ensures)
-    (nth_beyond c.if-area-lt-WORDS.false c.check_one-o.ensures (sym c.refuses.ensures ∙ c.if-refuses.false) c.degree-n.ensures c.shares.ensures c.if-shares.false c.clear.ensures
-    (walked_no (not-true _ c.if-not-a.true) (rw c.made_ready-d.ensures.0 at c.walk-a.ensures)) c.refused-then-not-a.ensures c.unchosen-then-not-a.ensures)
+returns-in_default c =
+    rw (c.into-in_default.ensures, ← c.modulus-m.ensures)
+    (nth_beyond (sym c.check_one.ensures ∙ c.in_ok-check_one.was) c.degree-n.ensures (inverse-coprime c.in_ok-invert.ensures) c.if-area-lt-WORDS.false c.clear.ensures (rw c.new.ensures at c.in_default.ensures))
 
 -- the j-th chain
 pub returns : goal.returns
 unfolding terms limit most_parts area_words
 returns c =
-    let a = sym c.check_one-o.ensures ∙ answered (sym c.refuses.ensures ∙ c.if-refuses.false) in
+    let passed = sym c.check_one.ensures ∙ c.in_ok-check_one.was in
     rw (← c.modulus-m.ensures)
-    (nth-told c.if-area-lt-WORDS.false c.check_one-o.ensures (sym c.refuses.ensures ∙ c.if-refuses.false) c.degree-n.ensures c.shares.ensures c.if-shares.false c.clear.ensures
-    (accepted-above (accepted-one (omega arith) a)) (walked_yes (not-false _ c.if-not-a.false) (rw c.made_ready-d.ensures.0 at c.walk-a.ensures)))
-
-pub clear-requires : goal.clear-requires
-unfolding terms limit most_parts area_words
-clear-requires c = search rules
+    (nth-told passed c.degree-n.ensures (inverse-coprime c.in_ok-invert.ensures) c.if-area-lt-WORDS.false c.clear.ensures (accepted-above (accepted-one (omega arith) passed)) (rw c.new.ensures at c.in-Ok.ensures))
