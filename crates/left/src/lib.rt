@@ -30,15 +30,13 @@ fn digits(p: &mut [u32], h: &[u32], s: usize, m: Divisor) -> bool
     requires { DivisionAsked m.number s h.now p.old }
     ensures { Digits m.number h.now s p.old p.new result }
 {
-    // Counted by hand: the last digit begins where it stops.
-    let mut at = 0;
-    while s < p.len() - at {
-        if !digit(&mut p[at..], h, s, m) {
+    let last = (p.len() - 1) / s;
+    for i in 0..last {
+        if !digit(&mut p[i * s..], h, s, m) {
             return false;
         }
-        at += s;
     }
-    division::is_constant(&p[at..])
+    division::is_constant(&p[last * s..])
 }
 
 // The lowest k digits of p at once: the remainder by b = h^k has them. If they are constants, it ends where h^(k-1) does.
@@ -61,15 +59,13 @@ fn blocks(p: &mut [u32], h: &[u32], b: &[u32], k: usize, s: usize, m: Divisor) -
     ensures { Digits m.number h.now s p.old p.new result }
 {
     let w = k * s;
-    // Counted by hand: the others begin where it stops.
-    let mut at = 0;
-    while w < p.len() - at {
-        if !block(&mut p[at..], h, b, k, s, m) {
+    let last = (p.len() - 1) / w;
+    for i in 0..last {
+        if !block(&mut p[i * w..], h, b, k, s, m) {
             return false;
         }
-        at += w;
     }
-    digits(&mut p[at..], h, s, m)
+    digits(&mut p[last * w..], h, s, m)
 }
 
 // All digits of p, of degree r * s: the first by itself, since most polynomials that are no g(h) show it there.

@@ -37,15 +37,11 @@ fn all_digits(p: &mut [u32], h: &[u32], b: &[u32], k: usize, r: usize, s: usize,
     requires { DivisionAsked m.number s h.now p.old × Raised m.number h.now s k b.now × (0 < k) × (r * s < length p.old) }
     ensures { Expanded m.number h.now s r p.old p.new }
 {
-    // Counted by hand: the place where it stops is where the others begin.
-    let mut i = 0;
-    while k <= r - i {
-        let at = i * s;
-        digits_at_once(&mut p[at..], h, b, k, s, m);
-        i += k;
+    for i in 0..r / k {
+        digits_at_once(&mut p[i * k * s..], h, b, k, s, m);
     }
-    let at = i * s;
-    each_digit(&mut p[at..], h, r - i, s, m);
+    let n = r / k * k;
+    each_digit(&mut p[n * s..], h, r - n, s, m);
 }
 
 // The highest place of the digits in p that has a number and is no digit's constant: the degree of the highest digit that is none.
