@@ -13,10 +13,6 @@ pub loop-k-init : goal.loop-k-init
 unfolding terms limit
 loop-k-init c = law.front_none
 
-pub loop-k-preserved : goal.loop-k-preserved
-unfolding terms limit
-loop-k-preserved c = law.front_more (omega (arith, c.min-top.ensures)) c.coefficient.ensures c.loop-k.invariant
-
 pub ending-requires : goal.ending-requires
 unfolding limit
 ending-requires c =

@@ -18,9 +18,6 @@ pub returns-then-coefficient-ne0-clause-yes : goal.returns-then-coefficient-ne0-
 unfolding limit
 returns-then-coefficient-ne0-clause-yes c = λ e. law.not_low (omega arith) c.coefficient.ensures c.if-coefficient-ne0.true
 
-pub loop-k-preserved : goal.loop-k-preserved
-loop-k-preserved c = (omega arith, law.searched_more (omega arith) c.coefficient.ensures c.if-coefficient-ne0.false c.loop-k.invariant.1)
-
 pub returns-clause-no : goal.returns-clause-no
 unfolding limit
 returns-clause-no c = λ e. law.searched_low (omega arith) c.loop-k.invariant.1
