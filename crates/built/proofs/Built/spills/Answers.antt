@@ -5,11 +5,11 @@ use Rattle.built.proofs.Built.spills.Goals as goal
 
 pub overflow_add-k : goal.overflow_add-k
 unfolding limit
-overflow_add-k c = omega (arith, (law.measured_ends c.args.self.now.measured).inside, (law.measured_ends c.args.y.now.measured).inside)
+overflow_add-k c = omega (arith, law.inside c.args.self.now, law.inside c.args.y.now)
 
 pub overflow_step-k : goal.overflow_step-k
 unfolding limit
-overflow_step-k c = omega (arith, (law.measured_ends c.args.self.now.measured).inside, (law.measured_ends c.args.y.now.measured).inside)
+overflow_step-k c = omega (arith, law.inside c.args.self.now, law.inside c.args.y.now)
 
 pub loop-k-init : goal.loop-k-init
 loop-k-init c = (omega arith, law.searched_none _ _ _ _ (omega (arith, c.args.self.now.measured.is, c.args.y.now.measured.is)))
