@@ -1,5 +1,5 @@
 // The chain area: places for the parts of a chain in the caller's memory.
-#![tactic(auto)]
+#![tactic(auto, unfolding(crate::specs::Area::most_parts, crate::specs::Area::area_words, algebra::specs::Polynomial::limit, algebra::specs::Polynomial::terms))]
 
 ghost use Rattle.std.specs.Prelude.{◌≡◌, ◌<◌, ◌≤◌, length};
 ghost use Rattle.algebra.specs.Polynomial.{terms};

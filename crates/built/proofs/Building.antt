@@ -1,6 +1,7 @@
 -- The coefficients of what is built.
 --
 --   measured_ends                a polynomial ends at its degree
+--   inside                       what is built keeps the limit
 --   Front f r i                  r is f's first i numbers, and zeros after them
 --   front_none, front_more, front_all    before the first store, after one more, and where f ends
 --   ending_degree                the degree is found below where a polynomial ends
@@ -28,6 +29,7 @@ use Rattle.polynomial.specs.Checks.{Measured}
 use Rattle.polynomial.proofs.Filling.{Filled, filled_none, filled_more, filled-all, zeros}
 use Rattle.inner.specs.Inner.{inner, Within}
 use Rattle.composition.specs.Composition.{Ends}
+use Rattle.built.specs.declared.Built.{Built}
 use Rattle.built.specs.Built.{Low}
 
 -- ---- where a polynomial ends
@@ -40,6 +42,10 @@ measured_ends {n} {f} c =
       past = λ k l. degree-above f k (omega (arith, c.is));
       inside = omega (arith, c.is, c.long, degree-below f (omega (arith, c.long)));
     }
+
+-- what is built keeps the limit
+pub inside : (v : Built) → v.degree ≤ limit
+inside v = (measured_ends v.measured).inside
 
 -- what stands below where it ends has the same degree
 pub ending_degree : {d n : ℕ} {f : List ℕ} → Ends d f → n ≡ degree (take (d + 1) f) → n ≡ degree f

@@ -31,6 +31,7 @@ pub fn number(s: &[u8], at: usize) -> Option<Numeral>
 {
     let mut value = digit(s, at)?;
     let mut next = at + 1;
+    // Counted by hand: the place after the last digit belongs to the answer.
     while let Some(d) = digit(s, next) {
         if next - at >= DIGITS {
             return None;

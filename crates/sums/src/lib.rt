@@ -1,4 +1,5 @@
-// The readers of a text: of sums, products, factors and bases, which call each other.
+// The readers of a text: of sums, products, factors and bases, which call each other. Their loops count nothing: each turn begins
+// where the reader of the turn before ended.
 #![tactic(auto)]
 
 ghost use Rattle.phrase.specs.Reading.{Phrase, Reads};
@@ -45,13 +46,15 @@ fn factor(s: &[u8], at: usize, depth: usize, m: Divisor) -> Result<Found, Fault>
 fn product(s: &[u8], at: usize, depth: usize, m: Divisor) -> Result<Found, Fault>
     ensures { Reads Phrase.a_product Phrase.a_product m.number s.now at depth result }
 {
-    let Found { mut next, mut built } = factor(s, at, depth, m)?;
-    while phrase::stands(s, next, b'*') {
-        let r = factor(s, next + 1, depth, m)?;
-        built = Built::multiply(built, r.built, m);
-        next = r.next;
+    let mut v = factor(s, at, depth, m)?;
+    while phrase::stands(s, v.next, b'*') {
+        let r = factor(s, v.next + 1, depth, m)?;
+        v = Found {
+            next: r.next,
+            built: Built::multiply(v.built, r.built, m),
+        };
     }
-    Ok(Found { next, built })
+    Ok(v)
 }
 
 // The first product of a sum, which may have a minus.
@@ -71,11 +74,13 @@ fn leading(s: &[u8], at: usize, depth: usize, m: Divisor) -> Result<Found, Fault
 pub fn sum(s: &[u8], at: usize, depth: usize, m: Divisor) -> Result<Found, Fault>
     ensures { Reads Phrase.a_sum Phrase.a_sum m.number s.now at depth result }
 {
-    let Found { mut next, mut built } = leading(s, at, depth, m)?;
-    while let Some(sign) = phrase::sign(s, next) {
-        let r = product(s, next + 1, depth, m)?;
-        built = phrase::added(built, r.built, sign, m);
-        next = r.next;
+    let mut v = leading(s, at, depth, m)?;
+    while let Some(sign) = phrase::sign(s, v.next) {
+        let r = product(s, v.next + 1, depth, m)?;
+        v = Found {
+            next: r.next,
+            built: phrase::added(v.built, r.built, sign, m),
+        };
     }
-    Ok(Found { next, built })
+    Ok(v)
 }

@@ -1,21 +1,15 @@
-use mathlib.Core.Path.{refl}
-use native.Mathlib.Omega.{arith}
-use borrow.Author.Rules.{rules}
-use lib.ListN.{length}
+use mathlib.Core.Path.{ap, ◌∙◌}
+use mathlib.Core.List.{List, ◌++◌}
+use Prim.Native.Nat.{ℕ}
+use lib.ListN.{replicate, drop}
 use lib.Seq.{length-take-le}
-use Prim.Native.Nat.{◌≤◌}
 use Rattle.algebra.specs.Polynomial.{limit, terms}
 use Rattle.area.specs.Area.{most_parts, area_words, cleared}
 use Rattle.area.proofs.clear.Goals as goal
 
-pub slice_bounds-fill-end : goal.slice_bounds-fill-end
-unfolding area_words most_parts terms limit
-slice_bounds-fill-end c = omega arith
-
-pub slice_bounds-fill-end-2 : goal.slice_bounds-fill-end-2
-unfolding area_words most_parts terms limit
-slice_bounds-fill-end-2 c = search rules
-
+-- the words that are used are zero, and the others as they were
 pub returns : goal.returns
 unfolding cleared area_words most_parts terms limit
-returns c = let h : 762 ≤ length c.args.area.now = c.requires in rw (c.fill.ensures.after (λ y e. e), length-take-le 762 c.args.area.now h) refl
+returns c =
+    let a = c.args.area.now in
+    ap (λ (s : List ℕ). s ++ drop 762 a) (c.fill.ensures.after (λ y e. e) ∙ ap (λ (n : ℕ). replicate n 0) (length-take-le 762 a c.requires))

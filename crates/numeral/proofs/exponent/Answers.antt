@@ -1,12 +1,9 @@
-use mathlib.Core.Path.{◌≡◌}
-use borrow.Author.Rules.{rules}
-use Rattle.std.specs.Prelude.{None}
 use Rattle.algebra.specs.Polynomial.{limit}
 use Rattle.numeral.proofs.Counting as law
 use Rattle.numeral.proofs.exponent.Goals as goal
 
 pub returns-in_err-n : goal.returns-in_err-n
-returns-in_err-n c = let e : c.from_residual.result ≡ None = search rules in rw e (law.power-none _ _ c.in_err-n.ensures)
+returns-in_err-n c = rw c.from_residual.ensures (law.power-none _ _ c.in_err-n.ensures)
 
 pub returns-then-n : goal.returns-then-n
 unfolding limit

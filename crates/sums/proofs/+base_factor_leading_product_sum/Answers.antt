@@ -35,7 +35,7 @@ pub leading-returns : goal.leading-returns
 leading-returns t c = law.sum-plain _ _ _ _ _ (c.stands.ensures.no c.if-stands.false) c.product-2.ensures
 
 pub product-loop-m-init : goal.product-loop-m-init
-product-loop-m-init t c = law.product-first _ _ _ _ c.in_ok-next.ensures
+product-loop-m-init t c = law.product-first _ _ _ _ c.in_ok-v.ensures
 
 pub product-returns-in_err-r : goal.product-returns-in_err-r
 product-returns-in_err-r t c =
@@ -46,7 +46,7 @@ product-returns-in_err-r t c =
 pub product-loop-m-preserved : goal.product-loop-m-preserved
 product-loop-m-preserved t c =
     let z = c.stands.ensures.yes c.loop-m-test.true in
-    law.product-more _ _ _ _ c.loop-m.invariant z.0 z.1 (omega arith) c.in_ok-r.ensures c.multiply-built.ensures
+    law.product-more _ _ _ _ c.loop-m.invariant z.0 z.1 (omega arith) c.in_ok-r.ensures c.multiply.ensures
 
 pub sum-returns-in_err-r : goal.sum-returns-in_err-r
 sum-returns-in_err-r t c =
@@ -57,7 +57,7 @@ sum-returns-in_err-r t c =
 pub sum-loop-sign-preserved : goal.sum-loop-sign-preserved
 sum-loop-sign-preserved t c =
     let z = c.in-Some.ensures in
-    law.sum_more _ _ _ _ c.loop-sign.invariant z.0 z.1 z.2 (omega arith) c.in_ok-r.ensures c.added-built.ensures
+    law.sum_more _ _ _ _ c.loop-sign.invariant z.0 z.1 z.2 (omega arith) c.in_ok-r.ensures c.added.ensures
 
 pub sum-returns : goal.sum-returns
 sum-returns t c = law.sum-end _ _ _ _ c.in_default.ensures c.loop-sign.invariant

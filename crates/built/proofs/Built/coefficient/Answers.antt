@@ -7,7 +7,7 @@ use Rattle.built.proofs.Built.coefficient.Goals as goal
 
 pub overflow_add-hi : goal.overflow_add-hi
 unfolding limit
-overflow_add-hi c = omega (arith, c.min-hi.ensures, (law.measured_ends c.args.self.now.measured).inside)
+overflow_add-hi c = omega (arith, c.min-hi.ensures, law.inside c.args.self.now)
 
 pub inner_product-requires : goal.inner_product-requires
 inner_product-requires c =

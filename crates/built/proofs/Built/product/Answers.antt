@@ -7,15 +7,11 @@ use Rattle.built.proofs.Built.product.Goals as goal
 
 pub overflow_add-self : goal.overflow_add-self
 unfolding limit
-overflow_add-self c = omega (arith, (law.measured_ends c.args.self.now.measured).inside, (law.measured_ends c.args.y.now.measured).inside)
+overflow_add-self c = omega (arith, law.inside c.args.self.now, law.inside c.args.y.now)
 
 pub loop-k-init : goal.loop-k-init
 unfolding terms limit
 loop-k-init c = law.front_none
-
-pub loop-k-preserved : goal.loop-k-preserved
-unfolding terms limit
-loop-k-preserved c = law.front_more (omega (arith, c.min-top.ensures)) c.coefficient.ensures c.loop-k.invariant
 
 pub ending-requires : goal.ending-requires
 unfolding limit

@@ -1,30 +1,25 @@
-use mathlib.Core.Path.{◌≡◌, ◌∙◌}
+use mathlib.Core.Path.{◌∙◌}
 use native.Mathlib.Omega.{arith}
-use borrow.Author.Rules.{rules}
-use Rattle.std.specs.Prelude.{None}
 use Rattle.algebra.specs.Polynomial.{limit}
 use Rattle.built.specs.Built.{base, free}
-use Rattle.built.proofs.Building.{measured_ends}
+use Rattle.built.proofs.Building.{inside}
 use Rattle.built.proofs.Joining.{shifts_powers}
 use Rattle.built.proofs.Built.raise.Goals as goal
 
 pub returns-in_err-x : goal.returns-in_err-x
-returns-in_err-x c = let e : c.from_residual.result ≡ None = search rules in rw (e, c.in_err-x.was) base
+returns-in_err-x c = rw (c.from_residual.ensures, c.in_err-x.was) base
 
 pub offset_bounds-x-x : goal.offset_bounds-x-x
 unfolding limit
-offset_bounds-x-x c = omega (arith, (measured_ends c.in_ok-x.x.measured).inside)
+offset_bounds-x-x c = omega (arith, inside c.in_ok-x.x)
 
 pub bounds-x-x : goal.bounds-x-x
 unfolding limit
-bounds-x-x c = omega (arith, (measured_ends c.in_ok-x.x.measured).inside)
+bounds-x-x c = omega (arith, inside c.in_ok-x.x)
 
 pub overflow_mul-x : goal.overflow_mul-x
 unfolding limit
 overflow_mul-x c = record { fits = omega (arith, (c.shifts.ensures c.if-shifts.true).within) }
-
-pub single-requires : goal.single-requires
-single-requires c = (c.shifts.ensures c.if-shifts.true).within
 
 pub returns-then-shifts : goal.returns-then-shifts
 returns-then-shifts c =

@@ -1,7 +1,4 @@
-use mathlib.Core.Path.{◌≡◌}
 use native.Mathlib.Omega.{arith}
-use borrow.Author.Rules.{rules}
-use Rattle.std.specs.Prelude.{None}
 use Rattle.built.proofs.Joining as law
 use Rattle.built.proofs.Built.repeated.Goals as goal
 
@@ -9,7 +6,7 @@ pub loop-i-init : goal.loop-i-init
 loop-i-init c = law.powered-none _ c.single-v.ensures
 
 pub returns-in_err-v : goal.returns-in_err-v
-returns-in_err-v c = let e : c.from_residual.result ≡ None = search rules in rw e (law.powered-high (omega arith) c.loop-i.invariant c.in_err-v.ensures (omega arith))
+returns-in_err-v c = rw c.from_residual.ensures (law.powered-high (omega arith) c.loop-i.invariant c.in_err-v.ensures (omega arith))
 
 pub loop-i-preserved : goal.loop-i-preserved
 loop-i-preserved c = law.powered-more (omega arith) c.loop-i.invariant c.in_ok-v.ensures

@@ -24,7 +24,7 @@ zero_at (x ∷ xs) e (suc i) = zero_at xs ((and-eq-true_iff (eqb x 0) (list_all 
 pub overflow_mul-self : goal.overflow_mul-self
 unfolding limit
 overflow_mul-self c =
-    record { fits = omega (arith, mul-le-mul {n₁ = c.args.self.now.degree} {m₁ = c.args.p} {n₂ = limit} {m₂ = limit} (law.measured_ends c.args.self.now.measured).inside c.requires) }
+    record { fits = omega (arith, mul-le-mul {n₁ = c.args.self.now.degree} {m₁ = c.args.p} {n₂ = limit} {m₂ = limit} (law.inside c.args.self.now) c.requires) }
 
 pub returns : goal.returns
 unfolding limit

@@ -5,11 +5,11 @@ use Rattle.built.proofs.Built.spills.Goals as goal
 
 pub overflow_add-k : goal.overflow_add-k
 unfolding limit
-overflow_add-k c = omega (arith, (law.measured_ends c.args.self.now.measured).inside, (law.measured_ends c.args.y.now.measured).inside)
+overflow_add-k c = omega (arith, law.inside c.args.self.now, law.inside c.args.y.now)
 
 pub overflow_step-k : goal.overflow_step-k
 unfolding limit
-overflow_step-k c = omega (arith, (law.measured_ends c.args.self.now.measured).inside, (law.measured_ends c.args.y.now.measured).inside)
+overflow_step-k c = omega (arith, law.inside c.args.self.now, law.inside c.args.y.now)
 
 pub loop-k-init : goal.loop-k-init
 loop-k-init c = (omega arith, law.searched_none _ _ _ _ (omega (arith, c.args.self.now.measured.is, c.args.y.now.measured.is)))
@@ -17,9 +17,6 @@ loop-k-init c = (omega arith, law.searched_none _ _ _ _ (omega (arith, c.args.se
 pub returns-then-coefficient-ne0-clause-yes : goal.returns-then-coefficient-ne0-clause-yes
 unfolding limit
 returns-then-coefficient-ne0-clause-yes c = λ e. law.not_low (omega arith) c.coefficient.ensures c.if-coefficient-ne0.true
-
-pub loop-k-preserved : goal.loop-k-preserved
-loop-k-preserved c = (omega arith, law.searched_more (omega arith) c.coefficient.ensures c.if-coefficient-ne0.false c.loop-k.invariant.1)
 
 pub returns-clause-no : goal.returns-clause-no
 unfolding limit
