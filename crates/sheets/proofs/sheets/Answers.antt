@@ -1,4 +1,4 @@
-use mathlib.Core.Path.{◌≡◌, refl, ap, subst, ◌∙◌}
+use mathlib.Core.Path.{◌≡◌, refl, sym, ap, subst, ◌∙◌}
 use mathlib.Core.List.{List, ◌++◌}
 use Prim.Native.Nat.{ℕ, ◌+◌, ◌*◌, ◌-◌, ◌<◌}
 use native.Mathlib.Omega.{arith}
@@ -50,13 +50,15 @@ pub loop-i-preserved : goal.loop-i-preserved
 unfolding records sheets_buffer most_sheets sheet_bytes record_bytes most_parts terms limit
 loop-i-preserved c =
     let (from, at, on, fits) = c.in-Some.ensures.steps in
-    let (size, left, few, begun) = c.loop-i.invariant in
-    let k = c.loop-i.i-iterator.count in
-    let more : k < records (length c.args.s.now) = inside c.args.s.now _ _ k left size from.1.0 from.1.1 from.1.2 in
-    let e : k * sheet_bytes + sheet_bytes - k * sheet_bytes ≡ sheet_bytes = omega arith in
-    let new = subst (λ (r : List ℕ). SheetOf r c.sheet_of.new.out) (this-record c.args.s.now _ _ k left size from.1.0 from.1.1) c.sheet_of.ensures in
-    rw (on, at)
-    (from.0 ∙ size, left-after c.args.s.now _ _ k left size from.1.0 from.1.1, omega arith, begun_more c.args.s.now c.args.out.now k (omega (arith, more, c.loop-i.auto.out)) (search rules) begun new (ap (λ (n : ℕ). take (k * sheet_bytes) c.loop-i.out ++ (c.sheet_of.new.out ++ drop n (drop (k * sheet_bytes) c.loop-i.out))) e))
+    let (size, left, few, begun) = rw (← at) at c.loop-i.invariant in
+    let s = c.args.s.now in
+    let i = c.in-Some.i in
+    let more : i < records (length s) = inside s _ _ i left size from.1.0 from.1.1 from.1.2 in
+    let e : i * sheet_bytes + sheet_bytes - i * sheet_bytes ≡ sheet_bytes = omega arith in
+    let new = subst (λ (r : List ℕ). SheetOf r c.sheet_of.new.out) (this-record s _ _ i left size from.1.0 from.1.1) c.sheet_of.ensures in
+    let next : c.next.new.self.count ≡ i + 1 = on ∙ ap (λ (n : ℕ). n + 1) (sym at) in
+    rw next
+    (from.0 ∙ size, left-after s _ _ i left size from.1.0 from.1.1, omega arith, begun_more s c.args.out.now i (omega (arith, more, c.loop-i.auto.out)) (search rules) begun new (ap (λ (n : ℕ). take (i * sheet_bytes) c.loop-i.out ++ (c.sheet_of.new.out ++ drop n (drop (i * sheet_bytes) c.loop-i.out))) e))
 
 pub overflow_mul-result : goal.overflow_mul-result
 unfolding records sheets_buffer most_sheets sheet_bytes record_bytes most_parts terms limit
