@@ -5,16 +5,15 @@
 use mathlib.Core.Path.{◌≡◌, refl, sym, ap, ◌∙◌}
 use mathlib.Core.List.{List, [], ◌∷◌, ◌++◌, append_assoc, append-nil}
 use Prim.Native.Nat.{ℕ, zero, suc, ◌+◌, ◌*◌, ◌-◌, ◌<◌, ◌≤◌, min}
-use native.Mathlib.Decide.{dec_le}
 use native.Mathlib.Omega.{arith}
 use native.Mathlib.Nat.{add-zero, mul-suc, mul-le-mul_left}
-use lib.ListN.{length, take, drop, set, length-append, length-drop, take-append-drop, drop_of_length-le}
-use lib.Seq.{sets, take_all, take_at}
-use Rattle.std.proofs.lemmas.List.{append_cancel_left}
+use lib.ListN.{length, take, drop, set, length-append, length-drop, drop_of_length-le}
+use lib.Seq.{sets, take_all}
 use Rattle.algebra.specs.Polynomial.{terms, limit}
 use Rattle.digits.specs.Digits.{Put}
 use Rattle.digits.proofs.Text.{put-append, put-most}
 use Rattle.record.specs.Record.{record_bytes}
+use Rattle.record.proofs.Chunks.{first, others}
 use Rattle.listing.specs.Text.{most_line}
 use Rattle.listing.specs.Listing.{Lines, none, more, LineIn, LinesIn, most_records, most_lines}
 
@@ -42,21 +41,6 @@ module _ (xs : List ℕ) (w : ℕ) {t : List ℕ} {m : ℕ} {ys : List ℕ} {q :
 
   part-put : Put xs w t m (take w xs ++ (ys ++ drop (length xs - w) (drop w xs))) (w + q)
   part-put = record { stored = part_sets; end = omega (arith, p.end); within = omega (arith, p.within) }
-
--- ---- a record at the front
-
--- the bytes of the next record, and those that are left
-module _ {b : List ℕ} (x r : List ℕ) (is : b ≡ x ++ r) (long : length x ≡ min record_bytes (length b)) where
-  first : take record_bytes b ≡ x
-  first = go (dec_le record_bytes (length b))
-    where
-      go : Dec (record_bytes ≤ length b) → take record_bytes b ≡ x
-      go (yes whole) = ap (take record_bytes) is ∙ take_at x r record_bytes (omega arith)
-      go (no short) =
-          take_all record_bytes b (omega arith) ∙ sym (take_all (length x) b (omega arith)) ∙ ap (take (length x)) is ∙ take_at x r (length x) refl
-
-  others : drop record_bytes b ≡ r
-  others = append_cancel_left x (drop record_bytes b) r (ap (λ (l : List ℕ). l ++ drop record_bytes b) (sym first) ∙ take-append-drop record_bytes b ∙ is)
 
 -- ---- the loop
 

@@ -34,13 +34,17 @@ pub const RECORDS: usize = 128;
 // The most bytes that their lines take.
 pub const LINES: usize = RECORDS * LINE;
 
-// A space and n's digits.
-fn spaced(n: u32, out: &mut [u8], at: usize) -> usize
-    requires { at + most_field ≤ length out.old }
-    ensures { Put out.old at (spaced_of (n ∷ [])) most_field out.new result }
+// Each number after a space.
+fn spaced(numbers: &[u32], out: &mut [u8], at: usize) -> usize
+    requires { at + most_field * length numbers.now ≤ length out.old }
+    ensures { Put out.old at (spaced_of numbers.now) (most_field * length numbers.now) out.new result }
 {
-    out[at] = b' ';
-    digits::digits(n, out, at + 1)
+    let mut end = at;
+    for n in numbers {
+        out[end] = b' ';
+        end = digits::digits(*n, out, end + 1);
+    }
+    end
 }
 
 // The line of a refused record: its number and the refusal number.
@@ -49,7 +53,7 @@ fn refused_line(number: u32, refusal: u32, out: &mut [u8]) -> usize
     ensures { Put out.old 0 (fields number (refusal ∷ [])) most_line out.new result }
 {
     let a = digits::digits(number, out, 0);
-    let b = spaced(refusal, out, a);
+    let b = spaced(&[refusal], out, a);
     out[b] = b'\n';
     b + 1
 }
@@ -64,7 +68,7 @@ fn degrees(area: &[u32], parts: usize, out: &mut [u8], at: usize) -> usize
         let from = area::start(i);
         let end = from + TERMS;
         let d = polynomial::degree(&area[from..end]);
-        k = spaced(d as u32, out, k);
+        k = spaced(&[d as u32], out, k);
     }
     k
 }
@@ -78,27 +82,6 @@ struct Numbers {
     price: u32,
 }
 
-// Two numbers, each after a space.
-fn two(a: u32, b: u32, out: &mut [u8], at: usize) -> usize
-    requires { at + 2 * most_field ≤ length out.old }
-    ensures { Put out.old at (spaced_of (a ∷ b ∷ [])) (2 * most_field) out.new result }
-{
-    let k = spaced(a, out, at);
-    spaced(b, out, k)
-}
-
-// The record's number, 0, and the numbers of a chain.
-fn first_numbers(number: u32, n: Numbers, out: &mut [u8]) -> usize
-    requires { (n.parts ≤ most_parts) × (before_degrees * most_field ≤ length out.old) }
-    ensures { Put out.old 0 (decimal number ++ spaced_of (0 ∷ n.degree ∷ n.parts ∷ n.tries ∷ n.price ∷ []))
-        (before_degrees * most_field) out.new result }
-{
-    let a = digits::digits(number, out, 0);
-    let b = two(0, n.degree, out, a);
-    let c = spaced(n.parts as u32, out, b);
-    two(n.tries, n.price, out, c)
-}
-
 // The line of an answered record: its number, 0, degree, parts, tries, price, and the degrees of the parts left to right.
 fn chain_line(number: u32, n: Numbers, area: &[u32], out: &mut [u8]) -> usize
     requires { (n.parts ≤ most_parts) × (area_words ≤ length area.now) × (most_line ≤ length out.old) }
@@ -106,9 +89,10 @@ fn chain_line(number: u32, n: Numbers, area: &[u32], out: &mut [u8]) -> usize
         (fields number (0 ∷ n.degree ∷ n.parts ∷ n.tries ∷ n.price ∷ table n.parts (λ i. degree_of (place area.now i))))
         most_line out.new result }
 {
-    let parts = n.parts;
-    let k = first_numbers(number, n, out);
-    let end = degrees(area, parts, out, k);
+    let a = digits::digits(number, out, 0);
+    let numbers = [0, n.degree, n.parts as u32, n.tries, n.price];
+    let b = spaced(&numbers, out, a);
+    let end = degrees(area, n.parts, out, b);
     out[end] = b'\n';
     end + 1
 }

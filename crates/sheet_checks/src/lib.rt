@@ -39,12 +39,10 @@ fn in_order(area: &[u32], i: usize) -> bool
     ensures { result ≡ in_order_of (λ i. used_of (place area.now i)) i }
 {
     if i == 0 {
-        return used(area, 0);
+        used(area, 0)
+    } else {
+        !used(area, i) || used(area, i - 1)
     }
-    if used(area, i) {
-        return used(area, i - 1);
-    }
-    true
 }
 
 // No. 12: the used places of an area are the first ones, and there is one.

@@ -31,10 +31,7 @@ fn check_words(m: u32, f: &[u32], i: usize) -> Outcome
 fn is_blank(m: u32, f: &[u32]) -> bool
     ensures { result ≡ all_zero (m ∷ f.now) }
 {
-    if m != 0 {
-        return false;
-    }
-    area::is_zero(f)
+    m == 0 && area::is_zero(f)
 }
 
 // Place i of an area, from place i of a sheet, and Nos. 1 to 4 of that record.

@@ -1,16 +1,14 @@
 -- Sheets one after the other.
 --
 --   front             a piece that lies in the first list
---   cut_short         a record that ends where the bytes end
 --   put-here, put-before, put-past     a piece that was put into its place, those before it, and what lies past it
-use mathlib.Core.Path.{◌≡◌, refl, sym, ap, ◌∙◌}
+use mathlib.Core.Path.{◌≡◌, sym, ap, ◌∙◌}
 use mathlib.Core.List.{List, ◌++◌}
-use Prim.Native.Nat.{ℕ, suc, ◌+◌, ◌*◌, ◌-◌, ◌≤◌, ◌<◌, min}
+use Prim.Native.Nat.{ℕ, suc, ◌+◌, ◌*◌, ◌≤◌, ◌<◌}
 use native.Mathlib.Nat as N
 use native.Mathlib.Omega.{arith}
-use native.Mathlib.Decide.{dec_le}
 use lib.ListN.{length, take, drop, take-append-drop, length-drop}
-use lib.Seq.{take_at, drop_at, drop-drop, take-append-le, drop-append-le, length-take-le, take_all}
+use lib.Seq.{take_at, drop_at, drop-drop, take-append-le, drop-append-le, length-take-le}
 
 module _ (w : ℕ) where
   -- a piece that lies in the first list
@@ -39,13 +37,3 @@ module _ (w : ℕ) where
     put-past =
         let e : (k + 1) * w ≡ k * w + w = N.add-mul k 1 w ∙ ap (λ (n : ℕ). k * w + n) (N.one-mul w) in
         rw e (sym (drop-drop w (k * w) put) ∙ ap (drop w) (drop_at (take (k * w) xs) _ (k * w) before) ∙ drop_at c _ w long ∙ drop-drop w (k * w) xs)
-
--- a record that ends where the bytes end
-pub cut_short : (k w : ℕ) (s : List ℕ) → take (min (k + w) (length s) - k) (drop k s) ≡ take w (drop k s)
-cut_short k w s = go (dec_le (k + w) (length s))
-  where
-    go : Dec (k + w ≤ length s) → take (min (k + w) (length s) - k) (drop k s) ≡ take w (drop k s)
-    go (yes l) = let e : min (k + w) (length s) - k ≡ w = omega arith in rw e refl
-    go (no l) =
-        let n = length-drop k s in
-        take_all (min (k + w) (length s) - k) (drop k s) (omega arith) ∙ sym (take_all w (drop k s) (omega arith))

@@ -2,6 +2,7 @@
 --
 --   of_refused, of_unchained, of_chained     each return for one record
 --   alone                                    a sheet in a buffer that has room for no more
+--   inside, this-record, left-after          a chunk of what is left: one more record, which it is, and what is left behind it
 --   Begun b xs ys i                          the first i sheets of b stand at the start of ys, which was xs
 --   sheets-within                            they stand in the buffer
 --   begun-none, begun_more, begun_all        before the first record, after one more, and after the last
@@ -9,17 +10,19 @@ use mathlib.Core.Path.{◌≡◌, refl, sym, ap, subst, ◌∙◌}
 use mathlib.Core.Bool.{Bool, true, false}
 use mathlib.Core.Logic.{⊎_elim}
 use mathlib.Core.List.{List, ◌++◌, append-nil}
-use Prim.Native.Nat.{ℕ, suc, ◌+◌, ◌*◌, ◌≤◌, ◌<◌}
+use Prim.Native.Nat.{ℕ, suc, ◌+◌, ◌*◌, ◌≤◌, ◌<◌, min}
 use native.Mathlib.Nat as N
 use native.Mathlib.Omega.{arith}
-use lib.ListN.{length, take, drop, replicate, take-append-drop, length-take, drop_of_length-le}
+use lib.ListN.{length, take, drop, replicate, take-append-drop, length-take, length-drop, drop_of_length-le}
 use lib.Seq.{length-take-le, drop-drop}
 use Rattle.refusal.specs.Refusal.{is_refused}
 use Rattle.refusal.proofs.Outcomes.{answered, a_refusal, refused_by}
 use Rattle.polynomial.specs.Moduli.{modulus}
 use Rattle.area.specs.Area.{area_words}
 use Rattle.record.specs.Record.{Checked}
-use Rattle.record.specs.Record.{checked}
+use Rattle.record.specs.Record.{record_bytes, checked}
+use Rattle.record.proofs.Chunks.{first, others}
+use Rattle.algebra.specs.Polynomial.{terms, limit}
 use Rattle.record.proofs.Answers.{check_outcome, check_answered}
 use Rattle.chain.specs.Chaining.{Chained}
 use Rattle.chain.specs.Chaining.{ChainOf}
@@ -46,6 +49,24 @@ module _ (b : List ℕ) {x : Checked} (is : x ≡ checked b) {t : Bool} (tells :
     of_chained k e =
         let (ok, m, f, n) = check_answered b is tells h in
         of.chained ok (rw (m, f) at chain) (answered (sym says ∙ k)) (e ∙ ap (λ (w : ℕ). sheet_of w ys) m)
+
+-- a chunk of what is left behind the first i records
+module _ (s x r : List ℕ) (i : ℕ) {rest : List ℕ} {size : ℕ} (left : rest ≡ drop (i * record_bytes) s) (chunk : size ≡ record_bytes) (is : rest ≡ x ++ r)
+    (long : length x ≡ min size (length rest)) where
+  whole : length x ≡ min record_bytes (length rest)
+  whole = rw (← chunk) long
+
+  pub inside : 0 < length rest → i < records (length s)
+  unfolding records record_bytes terms limit
+  inside some = omega (arith, some, ap length left, length-drop (i * record_bytes) s)
+
+  pub this-record : x ≡ record_at s i
+  this-record = sym (first x r is whole) ∙ ap (take record_bytes) left
+
+  pub left-after : r ≡ drop ((i + 1) * record_bytes) s
+  left-after =
+      let e : (i + 1) * record_bytes ≡ i * record_bytes + record_bytes = N.add-mul i 1 record_bytes ∙ ap (λ (n : ℕ). i * record_bytes + n) (N.one-mul record_bytes) in
+      sym (others x r is whole) ∙ ap (drop record_bytes) left ∙ drop-drop record_bytes (i * record_bytes) s ∙ ap (λ (n : ℕ). drop n s) (sym e)
 
 -- so far
 pub record Begun (b xs ys : List ℕ) (i : ℕ) : Type 0 where

@@ -5,7 +5,7 @@ ghost use Rattle.std.specs.Prelude.{◌≡◌, ◌*◌, ◌≤◌, length};
 ghost use Rattle.record.specs.Record.{record_bytes};
 ghost use Rattle.sheet.specs.Sheet.{sheet_bytes};
 ghost use Rattle.reading.specs.Running.{RunOf};
-ghost use Rattle.sheets.specs.Sheets.{most_sheets, sheets_buffer, records as records_of, SheetOf, SheetsOf, SheetsIn, Makes};
+ghost use Rattle.sheets.specs.Sheets.{most_sheets, sheets_buffer, SheetOf, SheetsOf, SheetsIn, Makes};
 
 use reading::{Failed, LAST, Maker};
 
@@ -40,28 +40,16 @@ fn sheet_of(bytes: &[u8], out: &mut [u8])
     sheet_writer::put(c.modulus, &area, out);
 }
 
-// How many records n bytes are cut into, of which the last may be short.
-fn records(n: usize) -> usize
-    requires { n ≤ sheets_buffer }
-    ensures { result ≡ records_of n }
-{
-    n.div_ceil(record::BYTES)
-}
-
 // The sheets of the records that s is cut into, one after the other; answers their length.
 fn sheets(s: &[u8], out: &mut [u8]) -> usize
     requires { (length s.now ≤ sheets_buffer) × (most_sheets * sheet_bytes ≤ length out.old) }
     ensures { SheetsIn s.now out.old out.new result }
 {
-    let n = records(s.len());
-    for i in 0..n {
-        let from = i * record::BYTES;
-        let end = (from + record::BYTES).min(s.len());
+    for (i, record) in s.chunks(record::BYTES).enumerate() {
         let at = i * sheet::BYTES;
-        let to = at + sheet::BYTES;
-        sheet_of(&s[from..end], &mut out[at..to]);
+        sheet_of(record, &mut out[at..at + sheet::BYTES]);
     }
-    n * sheet::BYTES
+    s.len().div_ceil(record::BYTES) * sheet::BYTES
 }
 
 // Makes sheets of records.

@@ -17,12 +17,20 @@ returns c =
     let a = c.args in
     let n = a.n in
     rw (← line-fields a.number (0 ∷ n.degree ∷ n.parts ∷ n.tries ∷ n.price ∷ []) (table n.parts (λ (i : ℕ). degree (place a.area.now i))))
-    (put-most {m = before_degrees * most_field + (most_field * n.parts + 1)} (omega arith)
-    (put-append c.first_numbers-k.ensures (put-append c.degrees-end.ensures (put_byte _ _ _))))
+    (put-most {m = most_digits + most_field * 5 + (most_field * n.parts + 1)} (omega arith)
+    (put-append (put-append c.digits-a.ensures c.spaced-b.ensures) (put-append c.degrees-end.ensures (put_byte _ _ _))))
 
-pub first_numbers-k-requires : goal.first_numbers-k-requires
+pub digits-a-requires : goal.digits-a-requires
 unfolding most_line before_degrees most_field most_digits most_parts
-first_numbers-k-requires c = search rules
+digits-a-requires c = search rules
+
+pub overflow_cast-numbers : goal.overflow_cast-numbers
+unfolding most_line before_degrees most_field most_digits most_parts
+overflow_cast-numbers c = search rules
+
+pub spaced-b-requires : goal.spaced-b-requires
+unfolding most_line before_degrees most_field most_digits most_parts
+spaced-b-requires c = search rules
 
 pub degrees-end-requires : goal.degrees-end-requires
 unfolding most_line before_degrees most_field most_digits most_parts

@@ -1,4 +1,4 @@
-use mathlib.Core.Path.{◌≡◌, refl, ◌∙◌}
+use mathlib.Core.Path.{◌≡◌}
 use native.Mathlib.Omega.{arith}
 use borrow.Author.Rules.{rules}
 use Rattle.algebra.specs.Number.{table}
@@ -13,7 +13,7 @@ use Rattle.listing.proofs.degrees.Goals as goal
 
 pub loop-i-init : goal.loop-i-init
 unfolding table
-loop-i-init c = (omega arith, refl, put-none _ _ _)
+loop-i-init c = put-none _ _ _
 
 pub overflow_cast-d : goal.overflow_cast-d
 unfolding terms limit
@@ -26,13 +26,13 @@ loop-i-preserved c =
     let l = c.loop-i in
     let a = c.args in
     let e = (place-degree a.area.now l.i (omega arith) (omega arith) c.start-from.ensures c.degree-d.ensures).0 in
-    (omega arith, c.spaced-k.auto.out ∙ l.invariant.1, put-table l.i (of a.area.now) l.invariant.2 e c.spaced-k.ensures)
+    put-table l.i (of a.area.now) l.invariant e c.spaced-k.ensures
 
 pub returns : goal.returns
 returns c =
     let l = c.loop-i in
     let e : l.i ≡ c.args.parts = omega arith in
-    rw (← e) l.invariant.2
+    rw (← e) l.invariant
 
 pub overflow_add-end : goal.overflow_add-end
 unfolding most_field most_digits terms limit most_parts area_words

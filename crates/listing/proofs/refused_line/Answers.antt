@@ -1,4 +1,4 @@
-use Prim.Native.Nat.{◌+◌}
+use Prim.Native.Nat.{◌+◌, ◌*◌}
 use native.Mathlib.Omega.{arith}
 use borrow.Author.Rules.{rules}
 use Rattle.digits.specs.Digits.{most_digits}
@@ -9,7 +9,7 @@ use Rattle.listing.proofs.refused_line.Goals as goal
 
 pub returns : goal.returns
 unfolding fields most_line before_degrees most_field most_digits most_parts
-returns c = put-most {m = most_digits + (most_field + 1)} (omega arith) (put-append c.digits-a.ensures (put-append c.spaced-b.ensures (put_byte _ _ _)))
+returns c = put-most {m = most_digits + (most_field * 1 + 1)} (omega arith) (put-append c.digits-a.ensures (put-append c.spaced-b.ensures (put_byte _ _ _)))
 
 pub digits-a-requires : goal.digits-a-requires
 unfolding most_line before_degrees most_field most_digits most_parts

@@ -1,10 +1,8 @@
 use mathlib.Core.Path.{sym}
 use native.Mathlib.Omega.{arith}
-use lib.ListN.{take, length-take}
 use lib.Seq.{length-take-le}
 use Rattle.algebra.specs.Polynomial.{terms, limit}
 use Rattle.record.specs.Record.{record_bytes}
-use Rattle.reading.specs.Reading.{most_listed, most_read}
 use Rattle.reading.proofs.Running.{stepped}
 use Rattle.reading.proofs.step.Goals as goal
 

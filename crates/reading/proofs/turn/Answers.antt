@@ -1,5 +1,4 @@
 use native.Mathlib.Omega.{arith}
-use mathlib.Core.Path.{refl}
 use Rattle.algebra.specs.Polynomial.{terms, limit}
 use Rattle.record.specs.Record.{record_bytes}
 use Rattle.reading.specs.Running.{failed}

@@ -1,12 +1,11 @@
-use mathlib.Core.Path.{sym}
 use borrow.Author.Tests.{eq-eqb, ne_eqb}
 use Rattle.area.specs.Area.{all_zero}
 use Rattle.sheet_records.proofs.is_blank.Goals as goal
 
-pub returns-then-m-ne0 : goal.returns-then-m-ne0
+pub returns-then-m-eq0 : goal.returns-then-m-eq0
 unfolding all_zero
-returns-then-m-ne0 c = sym (simp (ne_eqb _ 0 c.if-m-ne0.true))
+returns-then-m-eq0 c = simp (eq-eqb _ 0 c.if-m-eq0.true) c.is_zero.ensures
 
-pub returns : goal.returns
+pub returns-else-m-eq0 : goal.returns-else-m-eq0
 unfolding all_zero
-returns c = simp (eq-eqb _ 0 c.if-m-ne0.false) c.is_zero.ensures
+returns-else-m-eq0 c = simp (ne_eqb _ 0 c.if-m-eq0.false)

@@ -1,81 +1,73 @@
-use mathlib.Core.Path.{◌≡◌, ap, subst, ◌∙◌}
+use mathlib.Core.Path.{◌≡◌, refl, sym, ap, subst, ◌∙◌}
 use mathlib.Core.List.{List, ◌++◌}
-use Prim.Native.Nat.{ℕ, ◌+◌, ◌*◌, ◌-◌}
+use Prim.Native.Nat.{ℕ, ◌+◌, ◌*◌, ◌-◌, ◌<◌}
 use native.Mathlib.Omega.{arith}
-use lib.ListN.{take, drop, length-take, length-drop}
+use borrow.Author.Rules.{rules}
+use lib.ListN.{length, take, drop, length-take, length-drop}
 use Rattle.area.specs.Area.{most_parts}
 use Rattle.algebra.specs.Polynomial.{limit, terms}
 use Rattle.record.specs.Record.{record_bytes}
 use Rattle.sheet.specs.Sheet.{sheet_bytes}
 use Rattle.sheets.specs.Sheets.{most_sheets, sheets_buffer, records, SheetOf}
-use Rattle.sheets.proofs.Pieces.{cut_short}
-use Rattle.sheets.proofs.Writing.{begun-none, begun_more, begun_all}
-use borrow.Author.Rules.{rules}
+use Rattle.sheets.proofs.Writing.{inside, this-record, left-after, begun-none, begun_more, begun_all}
 use Rattle.sheets.proofs.sheets.Goals as goal
 
 pub loop-i-init : goal.loop-i-init
-loop-i-init c = (omega arith, search rules, begun-none _ _)
-
-pub overflow_mul-from : goal.overflow_mul-from
-unfolding records sheets_buffer most_sheets sheet_bytes record_bytes most_parts terms limit
-overflow_mul-from c = omega (arith, c.records-n.ensures)
-
-pub overflow_add-from : goal.overflow_add-from
-unfolding records sheets_buffer most_sheets sheet_bytes record_bytes most_parts terms limit
-overflow_add-from c = omega (arith, c.records-n.ensures)
+unfolding record_bytes terms limit
+loop-i-init c =
+    let items = c.enumerate-i-items.ensures in
+    simp (c.into_iter-i-iterator.ensures.into_iter_gives, items.source, items.count, c.chunks.ensures.rest, c.chunks.ensures.size) (refl, refl, omega arith, begun-none _ _)
 
 pub overflow_mul-at : goal.overflow_mul-at
 unfolding records sheets_buffer most_sheets sheet_bytes record_bytes most_parts terms limit
-overflow_mul-at c = omega (arith, c.records-n.ensures)
+overflow_mul-at c =
+    let (from, at, on, fits) = c.in-Some.ensures.steps in
+    let (size, left, few, begun) = c.loop-i.invariant in
+    omega (arith, inside c.args.s.now _ _ _ left size from.1.0 from.1.1 from.1.2, c.loop-i.auto.out)
 
-pub overflow_add-to : goal.overflow_add-to
+pub overflow_add-at : goal.overflow_add-at
 unfolding records sheets_buffer most_sheets sheet_bytes record_bytes most_parts terms limit
-overflow_add-to c = omega (arith, c.records-n.ensures)
-
-pub slice_bounds-sheet_of-count : goal.slice_bounds-sheet_of-count
-unfolding records sheets_buffer most_sheets sheet_bytes record_bytes most_parts terms limit
-slice_bounds-sheet_of-count c = omega (arith, c.min-end.ensures, c.records-n.ensures)
-
-pub slice_bounds-sheet_of-start : goal.slice_bounds-sheet_of-start
-unfolding records sheets_buffer most_sheets sheet_bytes record_bytes most_parts terms limit
-slice_bounds-sheet_of-start c = omega (arith, c.min-end.ensures, c.records-n.ensures)
+overflow_add-at c =
+    let (from, at, on, fits) = c.in-Some.ensures.steps in
+    let (size, left, few, begun) = c.loop-i.invariant in
+    omega (arith, inside c.args.s.now _ _ _ left size from.1.0 from.1.1 from.1.2, c.loop-i.auto.out)
 
 pub slice_bounds-sheet_of-end : goal.slice_bounds-sheet_of-end
 unfolding records sheets_buffer most_sheets sheet_bytes record_bytes most_parts terms limit
-slice_bounds-sheet_of-end c = omega (arith, c.min-end.ensures, c.records-n.ensures)
-
-pub slice_bounds-sheet_of-count-in-loop-i : goal.slice_bounds-sheet_of-count-in-loop-i
-unfolding records sheets_buffer most_sheets sheet_bytes record_bytes most_parts terms limit
-slice_bounds-sheet_of-count-in-loop-i c = omega (arith, c.min-end.ensures, c.records-n.ensures)
-
-pub slice_bounds-sheet_of-start-in-loop-i : goal.slice_bounds-sheet_of-start-in-loop-i
-unfolding records sheets_buffer most_sheets sheet_bytes record_bytes most_parts terms limit
-slice_bounds-sheet_of-start-in-loop-i c = omega (arith, c.min-end.ensures, c.records-n.ensures)
-
-pub slice_bounds-sheet_of-end-in-loop-i : goal.slice_bounds-sheet_of-end-in-loop-i
-unfolding records sheets_buffer most_sheets sheet_bytes record_bytes most_parts terms limit
-slice_bounds-sheet_of-end-in-loop-i c = omega (arith, c.min-end.ensures, c.records-n.ensures)
+slice_bounds-sheet_of-end c =
+    let (from, at, on, fits) = c.in-Some.ensures.steps in
+    let (size, left, few, begun) = c.loop-i.invariant in
+    omega (arith, inside c.args.s.now _ _ _ left size from.1.0 from.1.1 from.1.2, c.loop-i.auto.out)
 
 pub sheet_of-requires : goal.sheet_of-requires
 unfolding records sheets_buffer most_sheets sheet_bytes record_bytes most_parts terms limit
-sheet_of-requires c = simp (length-take, length-drop) (omega (arith, c.records-n.ensures))
+sheet_of-requires c =
+    let (from, at, on, fits) = c.in-Some.ensures.steps in
+    let (size, left, few, begun) = c.loop-i.invariant in
+    simp (length-take, length-drop) (omega (arith, inside c.args.s.now _ _ _ left size from.1.0 from.1.1 from.1.2, c.loop-i.auto.out))
 
 pub loop-i-preserved : goal.loop-i-preserved
 unfolding records sheets_buffer most_sheets sheet_bytes record_bytes most_parts terms limit
 loop-i-preserved c =
-    let l = c.loop-i in
-    let a = c.args in
-    let e : l.i * sheet_bytes + sheet_bytes - l.i * sheet_bytes ≡ sheet_bytes = omega arith in
-    let new = subst (λ (r : List ℕ). SheetOf r c.sheet_of.new.out) (ap (λ (n : ℕ). take (n - l.i * record_bytes) (drop (l.i * record_bytes) a.s.now)) c.min-end.ensures ∙ cut_short (l.i * record_bytes) record_bytes a.s.now) c.sheet_of.ensures in
-    (omega arith, search rules, begun_more a.s.now a.out.now l.i (omega (arith, c.records-n.ensures)) (search rules) l.invariant.2 new (ap (λ (n : ℕ). take (l.i * sheet_bytes) l.out ++ (c.sheet_of.new.out ++ drop n (drop (l.i * sheet_bytes) l.out))) e))
+    let (from, at, on, fits) = c.in-Some.ensures.steps in
+    let (size, left, few, begun) = rw (← at) at c.loop-i.invariant in
+    let s = c.args.s.now in
+    let i = c.in-Some.i in
+    let more : i < records (length s) = inside s _ _ i left size from.1.0 from.1.1 from.1.2 in
+    let e : i * sheet_bytes + sheet_bytes - i * sheet_bytes ≡ sheet_bytes = omega arith in
+    let new = subst (λ (r : List ℕ). SheetOf r c.sheet_of.new.out) (this-record s _ _ i left size from.1.0 from.1.1) c.sheet_of.ensures in
+    let next : c.next.new.self.count ≡ i + 1 = on ∙ ap (λ (n : ℕ). n + 1) (sym at) in
+    rw next
+    (from.0 ∙ size, left-after s _ _ i left size from.1.0 from.1.1, omega arith, begun_more s c.args.out.now i (omega (arith, more, c.loop-i.auto.out)) (search rules) begun new (ap (λ (n : ℕ). take (i * sheet_bytes) c.loop-i.out ++ (c.sheet_of.new.out ++ drop n (drop (i * sheet_bytes) c.loop-i.out))) e))
 
 pub overflow_mul-result : goal.overflow_mul-result
 unfolding records sheets_buffer most_sheets sheet_bytes record_bytes most_parts terms limit
-overflow_mul-result c = omega (arith, c.records-n.ensures)
+overflow_mul-result c = omega (arith, c.div_ceil.ensures)
 
 pub returns : goal.returns
 unfolding records sheets_buffer most_sheets sheet_bytes record_bytes most_parts terms limit
 returns c =
-    let l = c.loop-i in
-    let e = c.records-n.ensures in
-    begun_all _ _ {i = l.i} (omega arith) (omega arith) (omega arith) l.invariant.2
+    let (from, on) = c.in-None.ensures.steps in
+    let (size, left, few, begun) = c.loop-i.invariant in
+    let all : c.loop-i.i-iterator.count ≡ records (length c.args.s.now) = omega (arith, few, from.1.0, ap length left, length-drop (c.loop-i.i-iterator.count * record_bytes) c.args.s.now) in
+    begun_all _ _ all (omega (arith, all, c.div_ceil.ensures)) (omega (arith, c.div_ceil.ensures, c.loop-i.auto.out)) begun
