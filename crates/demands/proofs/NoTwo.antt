@@ -12,6 +12,7 @@ use native.Mathlib.Decide.{dec_le, dec_lt}
 use native.Mathlib.Omega.{arith}
 use lib.Dec.{eqb, ltb}
 use lib.ListN.{length}
+use Rattle.std.specs.Prelude.{Ok, Err}
 use Rattle.algebra.specs.Polynomial.{coef, degree, limit, terms, reduced}
 use Rattle.algebra.specs.Chain.{degrees, product}
 use Rattle.algebra.proofs.Numbers.{table_below, table-above}
@@ -70,8 +71,8 @@ not_answered : NotTwo Answered
 not_answered = record { is = λ e. omega arith }
 
 not_then : (a b : Outcome) → NotTwo a → NotTwo b → NotTwo (a then b)
-not_then Answered b m n = n
-not_then (Refused r) b m n = m
+not_then (Ok x) b m n = n
+not_then (Err r) b m n = m
 
 not_refusal : (c : Concerns) (r : Reason) → (number r ≡ 2 → ⊥) → NotTwo (refusal c r)
 not_refusal c r n = record { is = n }
@@ -106,8 +107,8 @@ unfolding compose nothing
 no-two-compose {g} {h} m n e = not_as (ap (λ (x : Answer). x.outcome) e) (go (check_pair machine_words g h) (not_check_pair m n))
   where
     go : (o : Outcome) → NotTwo o → NotTwo (beside o machine_words g h).outcome
-    go Answered k = k
-    go (Refused r) k = k
+    go (Ok x) k = k
+    go (Err r) k = k
 
 pub no-two-left-part : {f h : List ℕ} {x : Answer} → Machine f → Machine h → LeftPartOf machine_words f h x → NotTwo x.outcome
 unfolding check_left nothing
@@ -236,12 +237,12 @@ at-two : {i : ℕ} {o : Outcome} → NotTwo o → NotTwoAt i o
 at-two n = record { is = λ k e. n.is (ap number_of e) }
 
 at_then : {i : ℕ} (a b : Outcome) → NotTwoAt i a → NotTwoAt i b → NotTwoAt i (a then b)
-at_then Answered b m n = n
-at_then (Refused r) b m n = m
+at_then (Ok x) b m n = n
+at_then (Err r) b m n = m
 
 abbrev concerned : Outcome → ℕ
-concerned Answered = 0
-concerned (Refused r) = polynomial r.concerns
+concerned (Ok x) = 0
+concerned (Err r) = polynomial r.concerns
 
 -- what names place j names no other
 at_other : {i j : ℕ} → ¬ (j ≡ i) → (t : Bool) (r : Reason) → NotTwoAt i (refuse t (Place j) r)

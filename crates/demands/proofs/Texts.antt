@@ -9,6 +9,7 @@ use mathlib.Core.Bool.{Bool, true, false, not}
 use mathlib.Core.Logic.{inl, inr, ⊎_elim, ◌↔◌}
 use mathlib.Core.List.{List}
 use Prim.Native.Nat.{ℕ, ◌-◌}
+use Rattle.std.specs.Prelude.{Ok, Err}
 use Rattle.refusal.specs.Refusal.{refusal, refuse, ◌then◌, number_of}
 use Rattle.refusal.specs.declared.Refusal.{Refusal}
 use Rattle.refusal.specs.Refusal.{Outcome}
@@ -89,8 +90,8 @@ unfolding checked_text nothing
 checked-answered f h = go (check_degree First f then check_leading First f) h
   where
     go : (o : Outcome) → (answer_text o f).outcome ≡ Answered → o ≡ Answered
-    go Answered h = refl
-    go (Refused e) h = h
+    go (Ok x) h = refl
+    go (Err e) h = h
 
 checked-is : (f : List ℕ) → (checked_text f).outcome ≡ Answered → (checked_text f).polynomial ≡ f
 unfolding checked_text

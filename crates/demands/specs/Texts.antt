@@ -4,7 +4,7 @@
 --   Language w r      the answer r to the text w says whether w is in the language
 --   Means m w f       f is the meaning of the text w modulo m
 --   FirstFault w      the text w has a first fault from the left
-use Rattle.std.specs.Prelude.{◌≡◌, ◌⊎◌, List, ℕ}
+use Rattle.std.specs.Prelude.{◌≡◌, ◌⊎◌, List, ℕ, Ok, Err}
 use Rattle.algebra.specs.Polynomial.{Same}
 use Rattle.refusal.specs.Refusal.{number}
 use Rattle.refusal.specs.Refusal.{Outcome}
@@ -18,8 +18,8 @@ use Rattle.text.specs.Answers.{Sized}
 
 -- No. 13 or 14
 abbrev pub Misspelt : Outcome → Type 0
-Misspelt Answered = ⊥
-Misspelt (Refused e) = (number e.reason ≡ 13) ⊎ (number e.reason ≡ 14)
+Misspelt (Ok x) = ⊥
+Misspelt (Err e) = (number e.reason ≡ 13) ⊎ (number e.reason ≡ 14)
 
 -- what the reader says of the spelling, for a modulus that passes No. 1
 pub record Language (w : List ℕ) (r : Answer) : Type 0 where

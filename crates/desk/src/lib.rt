@@ -6,40 +6,33 @@ ghost use Rattle.polynomial.specs.Moduli.{modulus};
 ghost use Rattle.pair.specs.Pairing.{compose, LeftPartOf, Splits};
 ghost use Rattle.text.specs.Answers.{ReadsText};
 ghost use Rattle.change.specs.Changing.{made, ChangesPolynomial, ChangesPair, Combines, Undoing};
-ghost use Rattle.desk.specs.Face.{told as told_of, said as said_of, QuickAs, CheckedAs, AnswersAs, PartsAs, MadeAs, ChainedAs, NumberedAs, ChosenAs, place_of, SheetAs, ReadAs, TextAs};
+ghost use Rattle.desk.specs.Face.{told_by, said as said_of, QuickAs, CheckedAs, AnswersAs, PartsAs, MadeAs, ChainedAs, NumberedAs, ChosenAs, place_of, SheetAs, ReadAs, TextAs};
 
 use change::Change;
-use polynomial::TERMS;
-use refusal::Outcome;
+use polynomial::{TERMS, ZEROS};
+use refusal::Refusal;
 
 // A refusal in 01's numbers: number 0 if the request was answered; polynomial 0 neither, 1 the first, 2 the second, 16 + i the one in
 // place i of a sheet.
 #[repr(C)]
-#[derive(Drop)]
+#[derive(Clone, Copy, Default)]
 pub struct Refused {
     pub number: u32,
     pub polynomial: u32,
     pub power: u32,
 }
 
-fn told(outcome: Outcome) -> Refused
-    ensures { result ≡ told_of outcome }
+// What is told of a request: its refusal, or zeros.
+fn told(refusal: Option<Refusal>) -> Refused
+    ensures { result ≡ told_by refusal }
 {
-    match outcome {
-        Outcome::Answered => Refused {
-            number: 0,
-            polynomial: 0,
-            power: 0,
-        },
-        Outcome::Refused(r) => {
-            let reason = r.reason;
-            let concerns = r.concerns;
-            Refused {
-                number: refusal::number(reason),
-                polynomial: refusal::polynomial(concerns),
-                power: refusal::power(reason),
-            }
-        }
+    let Some(r) = refusal else {
+        return Refused::default();
+    };
+    Refused {
+        number: r.reason.number(),
+        polynomial: r.concerns.number(),
+        power: r.reason.power(),
     }
 }
 
@@ -53,13 +46,13 @@ pub extern "C" fn desk_check(
 ) -> Refused
     ensures { CheckedAs bytes.now result modulus.new f.new degree.new }
 {
-    let c = record::check(bytes);
+    let x = record::check(bytes);
+    let c = x.unwrap_or_default();
     let p = c.polynomial;
     *modulus = c.modulus;
     *f = p;
     *degree = c.degree;
-    let outcome = c.outcome;
-    told(outcome)
+    told(x.err())
 }
 
 // g(h).
@@ -72,11 +65,10 @@ pub extern "C" fn desk_compose(
 ) -> Refused
     ensures { AnswersAs (λ x. x ≡ compose (modulus m) g.now h.now) result f.new }
 {
-    let a = pair::compose(m, *g, *h);
-    let p = a.polynomial;
+    let x = pair::compose(m, *g, *h);
+    let p = x.unwrap_or(ZEROS);
     *f = p;
-    let outcome = a.outcome;
-    told(outcome)
+    told(x.err())
 }
 
 // The left part of f for the right part h.
@@ -89,11 +81,10 @@ pub extern "C" fn desk_left_part(
 ) -> Refused
     ensures { AnswersAs (LeftPartOf (modulus m) f.now h.now) result g.new }
 {
-    let a = pair::left_part(m, *f, *h);
-    let p = a.polynomial;
+    let x = pair::left_part(m, *f, *h);
+    let p = x.unwrap_or(ZEROS);
     *g = p;
-    let outcome = a.outcome;
-    told(outcome)
+    told(x.err())
 }
 
 // f split at the left degree r.
@@ -107,20 +98,13 @@ pub extern "C" fn desk_split(
 ) -> Refused
     ensures { PartsAs (Splits (modulus m) f.now r) result g.new h.new }
 {
-    let a = pair::split(m, *f, r);
-    let left = a.left;
-    let right = a.right;
+    let x = pair::split(m, *f, r);
+    let p = x.unwrap_or_default();
+    let left = p.left;
+    let right = p.right;
     *g = left;
     *h = right;
-    let outcome = a.outcome;
-    told(outcome)
-}
-
-// 1 for a yes, 0 for a no.
-fn said(yes: bool) -> usize
-    ensures { result ≡ said_of yes }
-{
-    if yes { 1 } else { 0 }
+    told(x.err())
 }
 
 // Whether f splits at the left degree r, 1 or 0, and the highest power at which the forced pair, composed, and f differ.
@@ -128,11 +112,13 @@ fn said(yes: bool) -> usize
 pub extern "C" fn desk_quick(m: u32, f: &[u32; TERMS], r: usize, answer: &mut [usize; 2]) -> Refused
     ensures { QuickAs (modulus m) f.now r result answer.new }
 {
-    let a = pair::quick(m, *f, r);
-    let yes = said(a.splits);
-    *answer = [yes, a.power];
-    let outcome = a.outcome;
-    told(outcome)
+    let x = pair::quick(m, *f, r);
+    *answer = match x {
+        Ok(None) => [1, 0],
+        Ok(Some(power)) => [0, power],
+        Err(_) => [0, 0],
+    };
+    told(x.err())
 }
 
 // f changed by (a, b).
@@ -147,10 +133,9 @@ pub extern "C" fn desk_change_polynomial(
     ensures { AnswersAs (ChangesPolynomial (modulus m) f.now (made a b)) result out.new }
 {
     let x = change::change_polynomial(m, *f, Change::make(a, b));
-    let p = x.polynomial;
+    let p = x.unwrap_or(ZEROS);
     *out = p;
-    let outcome = x.outcome;
-    told(outcome)
+    told(x.err())
 }
 
 // The pair g, h changed by (a, b).
@@ -167,12 +152,12 @@ pub extern "C" fn desk_change_pair(
     ensures { PartsAs (ChangesPair (modulus m) g.now h.now (made a b)) result left.new right.new }
 {
     let x = change::change_pair(m, *g, *h, Change::make(a, b));
-    let p = x.left;
-    let q = x.right;
+    let c = x.unwrap_or_default();
+    let p = c.left;
+    let q = c.right;
     *left = p;
     *right = q;
-    let outcome = x.outcome;
-    told(outcome)
+    told(x.err())
 }
 
 // First (a, b), then (a2, b2), as one change: its unit and its origin.
@@ -188,10 +173,9 @@ pub extern "C" fn desk_combine(
     ensures { MadeAs (Combines (modulus m) (made a b) (made a2 b2)) result out.new }
 {
     let x = Change::combine(m, Change::make(a, b), Change::make(a2, b2));
-    let c = x.change;
+    let c = x.unwrap_or(Change::IDENTITY);
     *out = [c.unit, c.origin];
-    let outcome = x.outcome;
-    told(outcome)
+    told(x.err())
 }
 
 // The change that undoes (a, b).
@@ -200,10 +184,9 @@ pub extern "C" fn desk_undo(m: u32, a: u32, b: u32, out: &mut [u32; 2]) -> Refus
     ensures { MadeAs (Undoing (modulus m) (made a b)) result out.new }
 {
     let x = Change::undo(m, Change::make(a, b));
-    let c = x.change;
+    let c = x.unwrap_or(Change::IDENTITY);
     *out = [c.unit, c.origin];
-    let outcome = x.outcome;
-    told(outcome)
+    told(x.err())
 }
 
 // The chain of f into an area: numbers are its parts, tries and price.
@@ -217,9 +200,9 @@ pub extern "C" fn desk_chain(
     ensures { ChainedAs (modulus m) f.now area.old area.new result numbers.new }
 {
     let x = chain::chain(m, *f, area);
-    *numbers = [x.parts, x.tries, x.price];
-    let outcome = x.outcome;
-    told(outcome)
+    let c = x.unwrap_or_default();
+    *numbers = [c.parts, c.tries, c.price];
+    told(x.err())
 }
 
 // The number of complete chains of f.
@@ -228,9 +211,8 @@ pub extern "C" fn desk_count_chains(m: u32, f: &[u32; TERMS], number: &mut usize
     ensures { NumberedAs (modulus m) f.now result number.new }
 {
     let x = chains::count_chains(m, *f);
-    *number = x.number;
-    let outcome = x.outcome;
-    told(outcome)
+    *number = x.unwrap_or(0);
+    told(x.err())
 }
 
 // The j-th complete chain of f, from 0, into an area: numbers are its parts and price.
@@ -245,9 +227,9 @@ pub extern "C" fn desk_nth_chain(
     ensures { ChosenAs (modulus m) f.now j area.old area.new result numbers.new }
 {
     let x = chains::nth_chain(m, *f, j, area);
-    *numbers = [x.parts, x.price];
-    let outcome = x.outcome;
-    told(outcome)
+    let c = x.unwrap_or_default();
+    *numbers = [c.parts, c.price];
+    told(x.err())
 }
 
 // Part i of an area: where it starts and how long it is; 0 and 0 if it is empty.
@@ -269,8 +251,7 @@ pub extern "C" fn desk_part(area: &[u32], i: usize, place: &mut [usize; 2])
 pub extern "C" fn desk_write_sheet(m: u32, area: &[u32], sheet: &mut [u8]) -> Refused
     ensures { SheetAs m area.now sheet.old sheet.new result }
 {
-    let outcome = sheet_writer::write(m, area, sheet);
-    told(outcome)
+    told(sheet_writer::write(m, area, sheet).err())
 }
 
 // A sheet into an area: its modulus, and what its parts compose to; zeros after a refusal.
@@ -284,11 +265,11 @@ pub extern "C" fn desk_read_sheet(
     ensures { ReadAs sheet.now area.old area.new result modulus.new f.new }
 {
     let x = sheet_reader::read(sheet, area);
-    let p = x.polynomial;
-    *modulus = x.modulus;
+    let c = x.unwrap_or_default();
+    let p = c.polynomial;
+    *modulus = c.modulus;
     *f = p;
-    let outcome = x.outcome;
-    told(outcome)
+    told(x.err())
 }
 
 // The polynomial that a text means; zeros after a refusal.
@@ -297,10 +278,9 @@ pub extern "C" fn desk_read_text(m: u32, text: &[u8], f: &mut [u32; TERMS]) -> R
     ensures { AnswersAs (ReadsText (modulus m) text.now) result f.new }
 {
     let x = text_reader::read(m, text);
-    let p = x.polynomial;
+    let p = x.unwrap_or(ZEROS);
     *f = p;
-    let outcome = x.outcome;
-    told(outcome)
+    told(x.err())
 }
 
 // f as text, into an area: length is the number of bytes written, 0 after a refusal.
@@ -314,7 +294,6 @@ pub extern "C" fn desk_write_text(
     ensures { TextAs (modulus m) f.now area.old area.new result length.new }
 {
     let x = text_writer::write(m, *f, area);
-    *length = x.length;
-    let outcome = x.outcome;
-    told(outcome)
+    *length = x.unwrap_or(0);
+    told(x.err())
 }

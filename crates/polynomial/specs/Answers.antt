@@ -2,6 +2,7 @@
 --
 --   Answer, Parts          an outcome beside a polynomial; beside a left part and a right part
 --   nothing o, no_parts o  the outcome o beside zeros
+--   zero_pair              two parts of zeros
 --   answer_of x            what is returned for the result x: its polynomial, or zeros beside its refusal
 --   parts_of x             the same for two parts
 use Rattle.std.specs.Prelude.{List, ℕ, Result, Ok, Err, replicate}
@@ -28,6 +29,10 @@ nothing o = record { outcome = o; polynomial = replicate terms 0 }
 -- for one that returns a left part and a right part
 unfoldable pub no_parts : Outcome → Parts
 no_parts o = record { outcome = o; left = replicate terms 0; right = replicate terms 0 }
+
+-- two parts of zeros
+abbrev pub zero_pair : Pair
+zero_pair = record { left = replicate terms 0; right = replicate terms 0 }
 
 -- the polynomial, or zeros beside the refusal
 abbrev pub answer_of : Result (List ℕ) Refusal → Answer

@@ -4,7 +4,8 @@
 ghost use Rattle.std.specs.Prelude.{◌≡◌, ◌≢◌, ◌<◌, ℕ, position, nat_le, length, IfNone, IfSome, slice_index};
 ghost use Rattle.algebra.specs.Polynomial.{degree as degree_of};
 ghost use Rattle.polynomial.specs.Moduli.{modulus as modulus_of, check_modulus};
-ghost use Rattle.polynomial.specs.Checks.{offending as offending_power, check_polynomial, check_one, check_two, check_pair, Measured};
+ghost use Rattle.polynomial.specs.Answers.{zero_pair};
+ghost use Rattle.polynomial.specs.Checks.{check_polynomial, check_one, check_two, check_pair, Measured};
 
 use reciprocal::MACHINE_WORDS;
 use refusal::{Concerns, Reason, Refusal};
@@ -23,7 +24,7 @@ const LARGEST: u64 = 2147483647;
 // The coefficients, that of x^0 first.
 pub type Coefficients = [u32; TERMS];
 
-// All coefficients zero: what 01 returns beside a refusal.
+// All coefficients zero, as they are handed out after a refusal.
 pub const ZEROS: Coefficients = [0; TERMS];
 
 // A left part and a right part.
@@ -31,6 +32,18 @@ pub const ZEROS: Coefficients = [0; TERMS];
 pub struct Pair {
     pub left: Coefficients,
     pub right: Coefficients,
+}
+
+// Both all zero, as they are handed out after a refusal.
+impl Default for Pair {
+    ghost is_default = { λ p. p ≡ zero_pair };
+
+    fn default() -> Pair {
+        Pair {
+            left: ZEROS,
+            right: ZEROS,
+        }
+    }
 }
 
 // The largest power whose coefficient is not zero.
