@@ -1,6 +1,7 @@
 -- What the functions for other languages return and write, in 01's numbers.
 --
 --   told outcome        number, polynomial and power of the refusal; all 0 if it is answered
+--   told_by refusal     the same of the refusal of a request, if there is one
 --   CheckedAs b r ..    what desk_check returns and writes for the bytes b
 --   AnswersAs Of r f    what a function for an operation that answers one polynomial returns and writes
 --   MadeAs Of r out     the same for an operation that answers a change: its unit and its origin
@@ -14,10 +15,10 @@
 --   ReadAs ..           what desk_read_sheet returns and writes
 --   TextAs ..           what desk_write_text returns and writes
 --   place_of xs i       where part i stands in the area xs: its start and its length, 0 and 0 if it is empty
-use Rattle.std.specs.Prelude.{◌≡◌, Bool, true, false, List, [], ◌∷◌, ℕ, zero, suc, length}
+use Rattle.std.specs.Prelude.{◌≡◌, Bool, true, false, List, [], ◌∷◌, ℕ, zero, suc, length, Option, Some, None, Ok, Err}
 use Rattle.refusal.specs.Refusal.{number, polynomial, power}
-use Rattle.refusal.specs.Refusal.{Outcome}
-use Rattle.refusal.specs.Refusal.{Answered, Refused}
+use Rattle.refusal.specs.Refusal.{Outcome, Answered, Refused}
+use Rattle.refusal.specs.declared.Refusal.{Refusal}
 use Rattle.polynomial.specs.Answers.{Answer}
 use Rattle.polynomial.specs.Answers.{Parts}
 use Rattle.pair.specs.Asking.{Verdict}
@@ -38,8 +39,13 @@ use Rattle.desk.specs.declared.Refused as face
 
 -- 01's numbers of an outcome
 abbrev pub told : Outcome → face.Refused
-told Answered = record { number = 0; polynomial = 0; power = 0 }
-told (Refused r) = record { number = number r.reason; polynomial = polynomial r.concerns; power = power r.reason }
+told (Ok x) = record { number = 0; polynomial = 0; power = 0 }
+told (Err r) = record { number = number r.reason; polynomial = polynomial r.concerns; power = power r.reason }
+
+-- of the refusal of a request, if there is one
+abbrev pub told_by : Option Refusal → face.Refused
+told_by None = told Answered
+told_by (Some r) = told (Refused r)
 
 -- the refusal, and the answer through the last parameters
 pub record CheckedAs (b : List ℕ) (r : face.Refused) (modulus : ℕ) (f : List ℕ) (degree : ℕ) : Type 0 where

@@ -78,7 +78,7 @@ fn tell(rt: &HostRuntime, program: &[u8], what: &[u8], number: u32) -> Failed {
 
 // One read into buf after `taken` bytes, behind those of the record that is begun, which stay: how many bytes have come, none at
 // the end of the input.
-fn more(rt: &HostRuntime, program: &[u8], taken: usize, buf: &mut [u8]) -> Result<usize, Failed>
+pub fn more(rt: &HostRuntime, program: &[u8], taken: usize, buf: &mut [u8]) -> Result<usize, Failed>
     requires { (taken < most_read) × (record_bytes ≤ length buf.old) }
     ensures { Came taken buf.old buf.new result }
 {
@@ -92,7 +92,7 @@ fn more(rt: &HostRuntime, program: &[u8], taken: usize, buf: &mut [u8]) -> Resul
 
 // How many bytes are listed where more have come after those that were kept: those of the whole records, or, where no more have
 // come and the input has ended, all.
-fn listed(kept: usize, more: usize) -> usize
+pub fn listed(kept: usize, more: usize) -> usize
     requires { kept + more ≤ most_read }
     ensures { (result ≤ kept + more) × (result ≡ upto kept more) }
 {
@@ -104,7 +104,7 @@ fn listed(kept: usize, more: usize) -> usize
 }
 
 // Moves n bytes from index `from` on to the front.
-fn keep(buf: &mut [u8], from: usize, n: usize)
+pub fn keep(buf: &mut [u8], from: usize, n: usize)
     requires { from + n ≤ length buf.old }
     ensures { buf.new ≡ to_front buf.old from n }
 {
