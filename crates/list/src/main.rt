@@ -2,12 +2,11 @@
 #![tactic(auto)]
 
 ghost use Rattle.std.specs.Prelude.{◌≡◌, ◌≤◌, length};
-ghost use Rattle.binomial.specs.Triangle.{rows, triangle};
 ghost use Rattle.listing.specs.Listing.{most_lines, Lines};
 ghost use Rattle.reading.specs.Running.{RunOf};
 ghost use Rattle.list.specs.Buffer.{buffer_bytes};
 
-use binomial::ENTRIES;
+use binomial::Table;
 use reading::{Failed, LAST, Maker};
 
 // The bytes of the records that are listed at a time.
@@ -16,8 +15,7 @@ const BUFFER: usize = listing::RECORDS * record::BYTES;
 // Makes lines of records, by the table of binomials.
 #[derive(Drop)]
 struct Lister<'a> {
-    binomials: &'a [u64; ENTRIES],
-    ghost table: { binomials.now ≡ triangle rows },
+    binomials: &'a Table,
 }
 
 impl Maker for Lister<'_> {
@@ -51,7 +49,7 @@ fn run(rt: &HostRuntime, lister: &Lister, buf: &mut [u8], out: &mut [u8]) -> Res
 }
 
 fn main(rt: HostRuntime) {
-    let binomials = binomial::table();
+    let binomials = Table::new();
     let lister = Lister {
         binomials: &binomials,
     };

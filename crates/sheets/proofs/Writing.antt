@@ -7,7 +7,7 @@
 --   sheets-within                            they stand in the buffer
 --   begun-none, begun_more, begun_all        before the first record, after one more, and after the last
 use mathlib.Core.Path.{◌≡◌, refl, sym, ap, subst, ◌∙◌}
-use mathlib.Core.Bool.{Bool, true, false}
+use mathlib.Core.Bool.{false}
 use mathlib.Core.Logic.{⊎_elim}
 use mathlib.Core.List.{List, ◌++◌, append-nil}
 use Prim.Native.Nat.{ℕ, suc, ◌+◌, ◌*◌, ◌≤◌, ◌<◌, min}
@@ -15,40 +15,39 @@ use native.Mathlib.Nat as N
 use native.Mathlib.Omega.{arith}
 use lib.ListN.{length, take, drop, replicate, take-append-drop, length-take, length-drop, drop_of_length-le}
 use lib.Seq.{length-take-le, drop-drop}
-use Rattle.refusal.specs.Refusal.{is_refused}
-use Rattle.refusal.proofs.Outcomes.{answered, a_refusal, refused_by}
+use Rattle.refusal.specs.Refusal.{Answered, Refused}
+use Rattle.refusal.specs.declared.Refusal.{Refusal}
 use Rattle.polynomial.specs.Moduli.{modulus}
 use Rattle.area.specs.Area.{area_words}
-use Rattle.record.specs.Record.{Checked}
-use Rattle.record.specs.Record.{record_bytes, checked}
+use Rattle.record.specs.Record.{record_bytes, no_record, checked, Checked}
 use Rattle.record.proofs.Chunks.{first, others}
 use Rattle.algebra.specs.Polynomial.{terms, limit}
 use Rattle.record.proofs.Answers.{check_outcome, check_answered}
-use Rattle.chain.specs.Chaining.{Chained}
-use Rattle.chain.specs.Chaining.{ChainOf}
+use Rattle.chain.specs.Chaining.{unchained, ChainOf}
 use Rattle.sheet.specs.Sheet.{sheet_bytes, record_at, sheet_of}
 use Rattle.sheets.specs.Sheets.{SheetOf, records, sheet_at, SheetsIn}
 use Rattle.sheets.specs.Sheets as of
 use Rattle.sheets.proofs.Pieces.{front, put-here, put-before, put-past}
 
-module _ (b : List ℕ) {x : Checked} (is : x ≡ checked b) {t : Bool} (tells : t ≡ is_refused x.outcome) where
+module _ (b : List ℕ) where
   -- its check refuses it
-  pub of_refused : t ≡ true → {c : List ℕ} → c ≡ replicate sheet_bytes 0 → SheetOf b c
-  of_refused h e = let (r, k, o) = refused_by (check_outcome b is) tells h in of.refused k e
+  pub of_refused : {r : Refusal} → no_record (Refused r) ≡ checked b → {c : List ℕ} → c ≡ replicate sheet_bytes 0 → SheetOf b c
+  unfolding no_record
+  of_refused is e = of.refused (sym (check_outcome b is)) e
 
-  module _ (h : t ≡ false) {y : Chained} {ys : List ℕ} (chain : ChainOf (modulus x.modulus) x.polynomial (replicate area_words 0) ys y) {s : Bool} (says : s ≡ is_refused y.outcome) where
+  module _ {w n : ℕ} {f : List ℕ} (is : ◌≡◌ {A = Checked} (record { outcome = Answered; modulus = w; polynomial = f; degree = n }) (checked b)) {ys : List ℕ} where
     -- its chain is refused
-    pub of_unchained : s ≡ true → {c : List ℕ} → c ≡ replicate sheet_bytes 0 → SheetOf b c
-    of_unchained k e =
-        let (ok, m, f, n) = check_answered b is tells h in
-        let (r, o) = a_refusal y.outcome (sym says ∙ k) in
-        of.unchained ok (rw (m, f) at chain) o e
+    pub of_unchained : {r : Refusal} → ChainOf (modulus w) f (replicate area_words 0) ys (unchained (Refused r)) → {c : List ℕ} → c ≡ replicate sheet_bytes 0 → SheetOf b c
+    of_unchained chain e =
+        let (ok, m, g, d) = check_answered b is {t = false} refl refl in
+        of.unchained ok (rw (m, g) at chain) refl e
 
     -- it has one
-    pub of_chained : s ≡ false → {c : List ℕ} → c ≡ sheet_of x.modulus ys → SheetOf b c
-    of_chained k e =
-        let (ok, m, f, n) = check_answered b is tells h in
-        of.chained ok (rw (m, f) at chain) (answered (sym says ∙ k)) (e ∙ ap (λ (w : ℕ). sheet_of w ys) m)
+    pub of_chained : {k t p : ℕ} → ChainOf (modulus w) f (replicate area_words 0) ys (record { outcome = Answered; parts = k; tries = t; price = p })
+        → {c : List ℕ} → c ≡ sheet_of w ys → SheetOf b c
+    of_chained chain e =
+        let (ok, m, g, d) = check_answered b is {t = false} refl refl in
+        of.chained ok (rw (m, g) at chain) refl (e ∙ ap (λ (w : ℕ). sheet_of w ys) m)
 
 -- a chunk of what is left behind the first i records
 module _ (s x r : List ℕ) (i : ℕ) {rest : List ℕ} {size : ℕ} (left : rest ≡ drop (i * record_bytes) s) (chunk : size ≡ record_bytes) (is : rest ≡ x ++ r)

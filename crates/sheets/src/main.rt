@@ -23,21 +23,14 @@ fn sheet_of(bytes: &[u8], out: &mut [u8])
     requires { length out.old ≡ sheet_bytes }
     ensures { SheetOf bytes.now out.new }
 {
-    let c = record::check(bytes);
-    let o = c.outcome;
-    if refusal::refuses(o) {
-        sheet_writer::blank(out);
-        return;
-    }
+    let Ok(record) = record::check(bytes) else {
+        return sheet_writer::blank(out);
+    };
     let mut area = [0; area::WORDS];
-    let f = c.polynomial;
-    let x = chain::chain(c.modulus, f, &mut area);
-    let p = x.outcome;
-    if refusal::refuses(p) {
-        sheet_writer::blank(out);
-        return;
+    match chain::chain(record.modulus, record.polynomial, &mut area) {
+        Ok(_) => sheet_writer::put(record.modulus, &area, out),
+        Err(_) => sheet_writer::blank(out),
     }
-    sheet_writer::put(c.modulus, &area, out);
 }
 
 // The sheets of the records that s is cut into, one after the other; answers their length.
