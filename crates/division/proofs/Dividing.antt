@@ -48,7 +48,7 @@ dividing_none {m} {s} {i} {h} {p} e small =
 
 -- one place further down: the sums above do not look at it
 pub dividing_more : {m s j a lo hi x y : ℕ} {h p q : List ℕ} (i : ℕ) → 0 < m → j ≡ i + 1 → i < length p
-    → a ≡ i + s → lo ≡ j + s - min (j + s) (length q) → hi ≡ min s j → lo ≤ hi
+    → a ≡ i + s → lo ≡ a + 1 - length q → hi ≡ min s j → lo ≤ hi
     → x ≡ inner h q a lo (hi - lo) % m → y ≡ (coef q i + (m - x)) % m
     → Dividing m h s p j q → Dividing m h s p i (set q i y)
 dividing_more {m} {s} {j} {a} {lo} {hi} {x} {y} {h} {p} {q} i pos ej inside ea elo ehi order ex ey c =
@@ -79,9 +79,9 @@ dividing_more {m} {s} {j} {a} {lo} {hi} {x} {y} {h} {p} {q} i pos ej inside ea e
     here = ap₂ (λ (u v : ℕ). (u + v) % m) stored (kept i (omega arith)) ∙ (restored (given h s q i) pos (ex ∙ ap (λ (z : ℕ). z % m) whole) ey).same ∙ ap (λ (z : ℕ). z % m) (c.still i (omega arith))
 
 -- the terms of a place's sum are there, be the sum the right one or one place off
-pub dividing_range : {a j s n lh x hi : ℕ} → a < j + s → s < a + 2 → j ≤ n → s ≤ n → s < lh → lh ≡ terms → x ≡ min (j + s) n → hi ≡ min s j → Within lh n a (j + s - x) hi
+pub dividing_range : {a i s n lh lo hi : ℕ} → a ≤ i + s → s < a + 2 → i < n → s ≤ n → s < lh → lh ≡ terms → lo ≡ i + s + 1 - n → hi ≡ min s (i + 1) → Within lh n a lo hi
 unfolding terms limit
-dividing_range la lb a b c d ex ehi = record { order = omega arith; first = omega arith; down = omega arith; second = omega arith; few = omega arith }
+dividing_range la lb a b c d elo ehi = record { order = omega arith; first = omega arith; down = omega arith; second = omega arith; few = omega arith }
 
 -- all places
 pub divided : {m s : ℕ} {h p q : List ℕ} → DivisionAsked m s h p → Dividing m h s p 0 q → Divided m h s p q

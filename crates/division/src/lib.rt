@@ -11,16 +11,14 @@ use reciprocal::Divisor;
 // p divided by h, of degree s, in place: its lowest s places become the remainder, those above them the quotient. From the top
 // down, each place loses what the quotient's places above it, times h without its leading 1, give there.
 pub fn divide(p: &mut [u32], h: &[u32], s: usize, m: Divisor)
-    requires { DivisionAsked m.number s h.now p.old × (s ≤ length p.old) × Ready m }
+    requires { DivisionAsked m.number s h.now p.old × (s ≤ length p.old) }
     ensures { Divided m.number h.now s p.old p.new }
 {
-    let mut i = p.len();
-    while 0 < i {
-        let end = i + s;
-        let lo = end - polynomial::smaller(end, p.len());
-        let hi = polynomial::smaller(s, i);
-        i -= 1;
-        let x = inner::inner_product(h, p, end - 1, lo, hi, m);
+    for i in (0..p.len()).rev() {
+        let top = i + s;
+        let lo = (top + 1).saturating_sub(p.len());
+        let hi = s.min(i + 1);
+        let x = inner::inner_product(h, p, top, lo, hi, m);
         p[i] = residue::subtract(p[i], x, m.number);
     }
 }
@@ -29,14 +27,7 @@ pub fn divide(p: &mut [u32], h: &[u32], s: usize, m: Divisor)
 pub fn is_constant(p: &[u32]) -> bool
     ensures { ConstantIs p.now result }
 {
-    let mut i = 1;
-    while i < p.len() {
-        if p[i] != 0 {
-            return false;
-        }
-        i += 1;
-    }
-    true
+    p.iter().skip(1).all(|c| *c == 0)
 }
 
 // b, which is h, becomes h^k.
@@ -55,14 +46,10 @@ pub fn at_once(r: usize) -> usize
     requires { 0 < r }
     ensures { (0 < result) × (result ≤ r) }
 {
-    if r < 5 {
-        return 1;
+    match r {
+        ..5 => 1,
+        5..12 => 2,
+        12..32 => 3,
+        _ => 5,
     }
-    if r < 12 {
-        return 2;
-    }
-    if r < 32 {
-        return 3;
-    }
-    5
 }

@@ -66,9 +66,6 @@ module _ (a b : List ℕ) (lo at step : ℕ) where
   unfolding strided
   strided-more n = sum_more n _
 
-  pub strided-start : strided a b lo at step (lo - lo) ≡ 0
-  strided-start = ap (strided a b lo at step) (sub_self lo) ∙ strided-none
-
   pub strided_next : (i j : ℕ) {p : ℕ} → lo ≤ i → j ≡ at + (i - lo) * step → p ≡ coef a i * coef b j
       → strided a b lo at step (i + 1 - lo) ≡ strided a b lo at step (i - lo) + p
   strided_next i j {p} h q e =

@@ -8,13 +8,14 @@
 --   reached-none, reached-first, reached-more    before the first digit, after it, and k digits further
 --   reached-no, reached_last                     and then one that is no constant, or all digits of the quotient
 --   digits_long                                  where there is a quotient beside the first digit
+--   piece, last_piece                            whole pieces of w places, and what is behind them
 --   reached_asked                                a quotient may be divided again
 use mathlib.Core.Path.{◌≡◌, refl, sym, ap, ◌∙◌, subst}
 use mathlib.Core.Logic.Iff
 use mathlib.Core.Logic.{◌↔◌}
 use mathlib.Core.Bool.{Bool, true, false, true≢false, false≢true}
 use mathlib.Core.List.{List, [], ◌∷◌, ◌++◌}
-use Prim.Native.Nat.{ℕ, zero, suc, ◌+◌, ◌*◌, ◌-◌, ◌%◌, ◌≤◌, ◌<◌}
+use Prim.Native.Nat.{ℕ, zero, suc, ◌+◌, ◌*◌, ◌-◌, ◌/◌, ◌%◌, ◌≤◌, ◌<◌}
 use native.Mathlib.Nat as N
 use native.Mathlib.Omega.{arith}
 use native.Mathlib.Decide.{dec_lt}
@@ -176,6 +177,17 @@ pub record Reached (m : ℕ) (h : List ℕ) (s : ℕ) (p₀ : List ℕ) (at : �
 -- where there is a quotient beside the first digit
 pub digits_long : {r s n : ℕ} → 0 < r → n ≡ r * s + 1 → s < n
 digits_long {r} {s} l e = omega (arith, N.mul-le-mul_right {m = 1} {n = r} s l)
+
+-- behind a whole piece of w places there is something
+pub piece : (n w i : ℕ) → 0 < n → i < (n - 1) / w → i * w + w < n
+piece n w i some l =
+    let e : (i + 1) * w ≡ i * w + w = omega arith in
+    let below : i + 1 ≤ (n - 1) / w = omega arith in
+    omega (arith, e, N.mul-le-mul_right w below, N.div-mul-le_self (n - 1) w)
+
+-- the last piece has no more than w places
+pub last_piece : (n w : ℕ) → 0 < w → n - (n - 1) / w * w ≤ w
+last_piece n w above = omega (arith, N.lt-div-mul-add {a = n - 1} above)
 
 -- a digit that is no constant
 pub lowest_no : {m s k : ℕ} {h p q : List ℕ} {t : Bool} → Lowest m h s k p q t → t ≡ false → Digits m h s p q false

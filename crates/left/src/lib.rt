@@ -2,7 +2,7 @@
 // since its r_i = q_i(0) wants h(0) = 0): the remainders are the digits of f in powers of h. f = g(h) exactly if every digit is
 // a constant, and then they are the coefficients of g. One list holds the digits found and, above them, the quotient still to
 // be divided. Where there are many digits some are taken at once, by a division by h^k, and told apart by divisions by h.
-#![tactic(auto)]
+#![tactic(auto, unfolding(algebra::specs::Polynomial::terms, algebra::specs::Polynomial::limit))]
 
 ghost use Rattle.std.specs.Prelude.{◌≡◌, ℕ, ◌+◌, ◌*◌, ◌≤◌, ◌<◌, length};
 ghost use Rattle.algebra.specs.Number.{table};
@@ -17,7 +17,7 @@ use refusal::{Concerns, Outcome, Reason};
 
 // The lowest digit of p, and above it the quotient; "no" if the digit is no constant.
 fn digit(p: &mut [u32], h: &[u32], s: usize, m: Divisor) -> bool
-    requires { DivisionAsked m.number s h.now p.old × (s ≤ length p.old) × Ready m }
+    requires { DivisionAsked m.number s h.now p.old × (s ≤ length p.old) }
     ensures { Lowest m.number h.now s 1 p.old p.new result }
 {
     division::divide(p, h, s, m);
@@ -26,22 +26,21 @@ fn digit(p: &mut [u32], h: &[u32], s: usize, m: Divisor) -> bool
 
 // All digits of p, one by one; one that is no constant ends it with "no".
 fn digits(p: &mut [u32], h: &[u32], s: usize, m: Divisor) -> bool
-    requires { DivisionAsked m.number s h.now p.old × Ready m }
+    requires { DivisionAsked m.number s h.now p.old }
     ensures { Digits m.number h.now s p.old p.new result }
 {
-    let mut at = 0;
-    while s < p.len() - at {
-        if !digit(&mut p[at..], h, s, m) {
+    let last = (p.len() - 1) / s;
+    for i in 0..last {
+        if !digit(&mut p[i * s..], h, s, m) {
             return false;
         }
-        at += s;
     }
-    division::is_constant(&p[at..])
+    division::is_constant(&p[last * s..])
 }
 
 // The lowest k digits of p at once: the remainder by b = h^k has them. If they are constants, it ends where h^(k-1) does.
 fn block(p: &mut [u32], h: &[u32], b: &[u32], k: usize, s: usize, m: Divisor) -> bool
-    requires { DivisionAsked m.number s h.now p.old × Raised m.number h.now s k b.now × (0 < k) × (k * s ≤ length p.old) × Ready m }
+    requires { DivisionAsked m.number s h.now p.old × Raised m.number h.now s k b.now × (0 < k) × (k * s ≤ length p.old) }
     ensures { Lowest m.number h.now s k p.old p.new result }
 {
     let w = k * s;
@@ -55,23 +54,22 @@ fn block(p: &mut [u32], h: &[u32], b: &[u32], k: usize, s: usize, m: Divisor) ->
 
 // All digits of p, k at once by b = h^k as long as there are more than k, and the others one by one.
 fn blocks(p: &mut [u32], h: &[u32], b: &[u32], k: usize, s: usize, m: Divisor) -> bool
-    requires { DivisionAsked m.number s h.now p.old × Raised m.number h.now s k b.now × (0 < k) × Ready m }
+    requires { DivisionAsked m.number s h.now p.old × Raised m.number h.now s k b.now × (0 < k) }
     ensures { Digits m.number h.now s p.old p.new result }
 {
     let w = k * s;
-    let mut at = 0;
-    while w < p.len() - at {
-        if !block(&mut p[at..], h, b, k, s, m) {
+    let last = (p.len() - 1) / w;
+    for i in 0..last {
+        if !block(&mut p[i * w..], h, b, k, s, m) {
             return false;
         }
-        at += w;
     }
-    digits(&mut p[at..], h, s, m)
+    digits(&mut p[last * w..], h, s, m)
 }
 
 // All digits of p, of degree r * s: the first by itself, since most polynomials that are no g(h) show it there.
 fn expand(p: &mut [u32], h: &Coefficients, r: usize, s: usize, m: Divisor) -> bool
-    requires { DivisionAsked m.number s h.now p.old × (length p.old ≡ r * s + 1) × (0 < r) × Ready m }
+    requires { DivisionAsked m.number s h.now p.old × (length p.old ≡ r * s + 1) × (0 < r) }
     ensures { Digits m.number h.now s p.old p.new result }
 {
     if !digit(p, h, s, m) {
@@ -89,12 +87,9 @@ fn constants(a: &[u32], r: usize, s: usize) -> Coefficients
     ensures { result ≡ table terms (λ i. coef a.now (i * s)) }
 {
     let mut g = [0; TERMS];
-    let mut i = r;
-    while i != 0 {
+    for i in 0..r + 1 {
         g[i] = a[i * s];
-        i -= 1;
     }
-    g[0] = a[0];
     g
 }
 
@@ -107,7 +102,7 @@ pub fn left_part(
     s: usize,
     m: Divisor,
 ) -> Answer
-    requires { LeftAsked m.number n r s f h × Ready m }
+    requires { LeftAsked m.number n r s f h }
     ensures { LeftAnswer m.number f r h result }
 {
     let mut a = f;

@@ -1,5 +1,5 @@
 // A polynomial and a pair after a·x + b, by the inverse of a: what a change makes of them once it is tested.
-#![tactic(auto)]
+#![tactic(auto, unfolding(algebra::specs::Polynomial::terms, algebra::specs::Polynomial::limit))]
 
 ghost use Rattle.std.specs.Prelude.{◌≡◌, length};
 ghost use Rattle.algebra.specs.Polynomial.{scaled, terms, reduced, Held};
@@ -30,7 +30,7 @@ fn moved(f: &[u32], n: usize, a: u32, b: u32, m: Divisor) -> Coefficients
 
 // Each coefficient times c.
 fn multiple(p: &[u32], c: u32, m: Divisor) -> Coefficients
-    requires { (length p.now ≡ terms) }
+    requires { length p.now ≡ terms }
     ensures { result ≡ reduced m.number (scaled c p.now) }
 {
     let mut q = [0; TERMS];
@@ -42,7 +42,7 @@ fn multiple(p: &[u32], c: u32, m: Divisor) -> Coefficients
 
 // a^(-n)·f(a·x + b), by the inverse u of a.
 pub fn changed(f: &[u32], n: usize, a: u32, b: u32, u: u32, m: Divisor) -> Coefficients
-    requires { Inverts m.number a u × Held m.number n f.now × Ready m }
+    requires { Inverts m.number a u × Held m.number n f.now }
     ensures { PolynomialChanged m.number n a b f.now result }
 {
     let p = moved(f, n, a, b, m);
@@ -58,7 +58,7 @@ struct Right {
 
 // h' = a^(-s)·(h(a·x + b) - h(b)): the constant of h(a·x + b) is h(b).
 fn changed_right(h: &[u32], s: usize, a: u32, b: u32, u: u32, m: Divisor) -> Right
-    requires { Inverts m.number a u × Held m.number s h.now × Ready m }
+    requires { Inverts m.number a u × Held m.number s h.now }
     ensures { RightChanged m.number s a b h.now result.part result.origin }
 {
     let mut p = moved(h, s, a, b, m);
@@ -81,7 +81,7 @@ pub fn changed_pair(
     u: u32,
     m: Divisor,
 ) -> Parts
-    requires { Inverts m.number a u × Held m.number r g.now × Held m.number s h.now × Ready m }
+    requires { Inverts m.number a u × Held m.number r g.now × Held m.number s h.now }
     ensures { PairChanged m.number r s a b g.now h.now result }
 {
     let right = changed_right(h, s, a, b, u, m);

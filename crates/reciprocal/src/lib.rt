@@ -3,7 +3,7 @@
 //   Divisor              a modulus with its reciprocal
 //   remainder, near      a number modulo m, and one that is congruent to it and below 2m
 //   carry                what 2^64 counts modulo m
-//   whole, high          the product of two words of 32 bits, and the high word of a product of 64
+//   whole, high          the product of two words of 32 bits, and the high word of a product of two of 64
 #![tactic(auto)]
 
 ghost use Rattle.std.specs.Prelude.{◌≡◌, ◌+◌, ◌-◌, ◌*◌, ◌/◌, ◌%◌, ◌^◌, ◌≤◌, ◌<◌};
@@ -68,16 +68,9 @@ pub fn whole(x: u32, y: u32) -> u64
     u64::from(x) * u64::from(y)
 }
 
-// The high word of x * y. The compiler makes one multiplication of the four.
+// The high word of x * y.
 fn high(x: u64, y: u64) -> u64
     ensures { result ≡ x * y / 2 ^ 64 }
 {
-    let a = (x / MACHINE_WORDS) as u32;
-    let b = (x % MACHINE_WORDS) as u32;
-    let c = (y / MACHINE_WORDS) as u32;
-    let d = (y % MACHINE_WORDS) as u32;
-    let low = whole(b, d);
-    let left = whole(a, d) + low / MACHINE_WORDS;
-    let right = whole(b, c) + left % MACHINE_WORDS;
-    whole(a, c) + left / MACHINE_WORDS + right / MACHINE_WORDS
+    ((u128::from(x) * u128::from(y)) >> 64) as u64
 }

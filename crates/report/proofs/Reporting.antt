@@ -8,6 +8,7 @@
 --   expanded_none, expanded_one, expanded_block     no digit yet, one by a division by h, k by a division by h^k
 --   expanded_asked, expanded_more     the quotient may be divided again, and gives so many digits more
 --   digits-end, digit-end     some digits, or one, end within the list
+--   whole_block               k digits at once are among r
 --   digit-below           a digit's degree is below s
 --   Scanned, scanned_none, scanned_here, scanned_more, scanned_all    the walk over the digits, from the highest on
 --   expanded_wide, expanded_front     the digits in the list that holds them
@@ -15,7 +16,7 @@
 use mathlib.Core.Path.{◌≡◌, refl, sym, ap, ◌∙◌, subst}
 use mathlib.Core.Logic.{⊎_elim}
 use mathlib.Core.List.{List, [], ◌∷◌, ◌++◌, append_assoc}
-use Prim.Native.Nat.{ℕ, zero, suc, ◌+◌, ◌*◌, ◌-◌, ◌%◌, ◌≤◌, ◌<◌}
+use Prim.Native.Nat.{ℕ, zero, suc, ◌+◌, ◌*◌, ◌/◌, ◌-◌, ◌%◌, ◌≤◌, ◌<◌}
 use native.Mathlib.Nat as N
 use native.Mathlib.Omega.{arith}
 use native.Mathlib.Decide.{dec_lt}
@@ -126,6 +127,13 @@ pub digits-end : (i k r s : ℕ) → i + k ≤ r → i * s + k * s ≤ r * s
 digits-end i k r s l =
     let e : i * s + k * s ≡ (i + k) * s = omega arith in
     rw e (N.mul-le-mul_right s l)
+
+-- k digits at once, i times before
+pub whole_block : (i k r : ℕ) → i < r / k → i * k + k ≤ r
+whole_block i k r l =
+    let e : (i + 1) * k ≡ i * k + k = omega arith in
+    let below : i + 1 ≤ r / k = omega arith in
+    omega (arith, e, N.mul-le-mul_right k below, N.div-mul-le_self r k)
 
 -- n digits, and then k of their quotient
 digits_join : {m : ℕ} → 0 < m → (h : List ℕ) (s n k : ℕ) (p q : List ℕ) → n * s ≤ length p → Same m (drop (n * s) p) (from_digits h s k q)

@@ -1,6 +1,6 @@
 // The report (request No. 7): the highest power at which f and g(h) differ, for the forced left part g. It takes all digits of f in
 // powers of h, constants or not: the highest that is none tells that power. Some are taken at once, as for the left part.
-#![tactic(auto)]
+#![tactic(auto, unfolding(algebra::specs::Polynomial::terms, algebra::specs::Polynomial::limit))]
 
 ghost use Rattle.std.specs.Prelude.{◌≡◌, ◌+◌, ◌*◌, ◌≤◌, ◌<◌, length};
 ghost use Rattle.algebra.specs.Polynomial.{limit};
@@ -13,7 +13,7 @@ use reciprocal::Divisor;
 
 // The lowest n digits of p, constants or not, one by one; above them the quotient.
 fn each_digit(p: &mut [u32], h: &[u32], n: usize, s: usize, m: Divisor)
-    requires { DivisionAsked m.number s h.now p.old × (n * s ≤ length p.old) × Ready m }
+    requires { DivisionAsked m.number s h.now p.old × (n * s ≤ length p.old) }
     ensures { Expanded m.number h.now s n p.old p.new }
 {
     for i in 0..n {
@@ -24,7 +24,7 @@ fn each_digit(p: &mut [u32], h: &[u32], n: usize, s: usize, m: Divisor)
 
 // The lowest k digits of p, constants or not, at once: the remainder by b = h^k has them, and k - 1 divisions tell them apart.
 fn digits_at_once(p: &mut [u32], h: &[u32], b: &[u32], k: usize, s: usize, m: Divisor)
-    requires { DivisionAsked m.number s h.now p.old × Raised m.number h.now s k b.now × (0 < k) × (k * s ≤ length p.old) × Ready m }
+    requires { DivisionAsked m.number s h.now p.old × Raised m.number h.now s k b.now × (0 < k) × (k * s ≤ length p.old) }
     ensures { Expanded m.number h.now s k p.old p.new }
 {
     let w = k * s;
@@ -34,17 +34,14 @@ fn digits_at_once(p: &mut [u32], h: &[u32], b: &[u32], k: usize, s: usize, m: Di
 
 // The lowest r digits of p, constants or not: k at once by b = h^k as long as there are k, and the others one by one.
 fn all_digits(p: &mut [u32], h: &[u32], b: &[u32], k: usize, r: usize, s: usize, m: Divisor)
-    requires { DivisionAsked m.number s h.now p.old × Raised m.number h.now s k b.now × (0 < k) × (r * s < length p.old) × Ready m }
+    requires { DivisionAsked m.number s h.now p.old × Raised m.number h.now s k b.now × (0 < k) × (r * s < length p.old) }
     ensures { Expanded m.number h.now s r p.old p.new }
 {
-    let mut i = 0;
-    while k <= r - i {
-        let at = i * s;
-        digits_at_once(&mut p[at..], h, b, k, s, m);
-        i += k;
+    for i in 0..r / k {
+        digits_at_once(&mut p[i * k * s..], h, b, k, s, m);
     }
-    let at = i * s;
-    each_digit(&mut p[at..], h, r - i, s, m);
+    let n = r / k * k;
+    each_digit(&mut p[n * s..], h, r - n, s, m);
 }
 
 // The highest place of the digits in p that has a number and is no digit's constant: the degree of the highest digit that is none.
@@ -52,9 +49,7 @@ fn highest(p: &[u32], r: usize, s: usize) -> usize
     requires { (length p.now ≡ r * s + 1) × (0 < s) × (r * s ≤ limit) }
     ensures { HighestAt s p.now result }
 {
-    let mut j = r;
-    while 0 < j {
-        j -= 1;
+    for j in (0..r).rev() {
         let at = j * s;
         let end = at + s;
         let d = polynomial::degree(&p[at..end]);
@@ -68,7 +63,7 @@ fn highest(p: &[u32], r: usize, s: usize) -> usize
 // The highest power at which f, of degree n = r * s, and g(h) differ for the forced left part g; 0 if f = g(h). No digit ends it
 // early: the highest that is no constant is wanted, and it is found last.
 pub fn report(f: Coefficients, h: Coefficients, n: usize, r: usize, s: usize, m: Divisor) -> usize
-    requires { LeftAsked m.number n r s f h × Ready m }
+    requires { LeftAsked m.number n r s f h }
     ensures { LeftReport m.number f r s h result }
 {
     let k = division::at_once(r);

@@ -6,7 +6,7 @@
 //
 // The same columns go on for two places past h: they are the r-th root of f from the top. If f = g(h), the root is h + g_(r-1)/r
 // as far as place 2s - 1, so its place s + 1 is 0; where it is not, the forced pair and f differ at x^(n-s-1).
-#![tactic(auto)]
+#![tactic(auto, using(crate::proofs::Columns::left_twice, crate::proofs::Columns::right_twice), unfolding(algebra::specs::Polynomial::terms, algebra::specs::Polynomial::limit, binomial::specs::Triangle::rows, crate::specs::Rows::words,))]
 
 ghost use Rattle.std.specs.Prelude.{◌≡◌, min, ◌+◌, ◌*◌, ◌%◌, ◌≤◌, ◌<◌, length};
 ghost use Rattle.algebra.specs.Polynomial.{limit, Reduced};
@@ -30,7 +30,7 @@ fn binomials(row: &[u64], r: usize, top: usize, u: u32, m: Divisor) -> [u32; ROW
     let mut b = [0; ROWS];
     b[1] = u;
     for i in 2..top + 1 {
-        let x = reciprocal::remainder(row[i], m);
+        let x = m.remainder(row[i]);
         b[i] = residue::subtract(0, residue::multiply(x, u, m), m.number);
     }
     b
@@ -51,12 +51,12 @@ fn column(t: &mut [u32], w: usize, k: usize, n: usize, m: Divisor)
 
 // Column k, whole: the rows after the first, then the place of row 0 that 01's equation asks, f's coefficient among its terms.
 fn next(t: &mut [u32], f: &[u32], b: &[u32], n: usize, r: usize, s: usize, k: usize, m: Divisor)
-    requires ready { Degrees n r s × Reduced m.number f.now × (length b.now ≡ rows) }
+    requires asked { Degrees n r s × Reduced m.number f.now × (length b.now ≡ rows) }
     requires rows { Rows m.number f.now n r (s + 2) b.now k t.old × (0 < k) × (k < s + 2) }
     ensures { Rows m.number f.now n r (s + 2) b.now (k + 1) t.new }
 {
     let w = s + 2;
-    let last = polynomial::smaller(r, k);
+    let last = r.min(k);
     column(t, w, k, last - 1, m);
     t[k] = f[n - k];
     let x = inner::strided_product(b, t, 1, last + 1, k, w, m);
@@ -88,10 +88,10 @@ pub fn root(
     row: &[u64],
     m: Divisor,
 ) -> bool
-    requires { RightAsked m.number n r s u f.now × HasRow r (min r (s + 1)) row.now × Space m.number t.old × Ready m }
+    requires { RightAsked m.number n r s u f.now × HasRow r (min r (s + 1)) row.now × Space m.number t.old }
     ensures { Root m.number f.now r s t.new result }
 {
-    let b = binomials(row, r, polynomial::smaller(r, s + 1), u, m);
+    let b = binomials(row, r, r.min(s + 1), u, m);
     for k in 1..s + 2 {
         next(t, f, &b, n, r, s, k, m);
     }

@@ -1,32 +1,22 @@
 use mathlib.Core.Path.{◌≡◌}
 use native.Mathlib.Omega.{arith}
-use Rattle.algebra.specs.Polynomial.{limit}
 use Rattle.division.proofs.Raising.{raised-one, raised-room, raised-more}
 use Rattle.division.proofs.raise.Goals as goal
 
 pub loop-i-init : goal.loop-i-init
 loop-i-init c =
     let p = c.requires in
-    (omega arith, rw p.2 (raised-one (omega (arith, p.0.modulus.above_one)) p.1))
-
-pub overflow_mul-i : goal.overflow_mul-i
-unfolding limit
-overflow_mul-i c =
-    let p = c.requires in
-    let l = c.loop-i in
-    omega (arith, (raised-room (omega (arith, p.0.modulus.above_one)) p.1 c.loop-i-test.true p.4 l.invariant.1).within)
+    (omega arith, rw p.1 (raised-one (omega (arith, c.args.m.modulus.above_one)) p.0))
 
 pub step-requires : goal.step-requires
 step-requires c =
     let p = c.requires in
-    let l = c.loop-i in
-    (p.0, raised-room (omega (arith, p.0.modulus.above_one)) p.1 c.loop-i-test.true p.4 l.invariant.1)
+    raised-room (omega (arith, c.args.m.modulus.above_one)) p.0 c.loop-i-test.true p.3 c.loop-i.invariant.1
 
 pub loop-i-preserved : goal.loop-i-preserved
 loop-i-preserved c =
     let p = c.requires in
-    let l = c.loop-i in
-    (omega arith, raised-more (omega (arith, p.0.modulus.above_one)) p.1 c.loop-i-test.true p.4 l.invariant.1 c.step.ensures)
+    (omega arith, raised-more (omega (arith, c.args.m.modulus.above_one)) p.0 c.loop-i-test.true p.3 c.loop-i.invariant.1 c.step.ensures)
 
 pub returns : goal.returns
 returns c =

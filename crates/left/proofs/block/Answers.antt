@@ -1,45 +1,26 @@
-use mathlib.Core.Path.{refl, sym}
+use mathlib.Core.Path.{refl}
 use Prim.Native.Nat.{◌+◌, ◌*◌, ◌-◌}
 use native.Mathlib.Nat.{mul-le-mul_right}
 use native.Mathlib.Omega.{arith}
-use lib.Seq.{length-take-le}
-use Rattle.algebra.specs.Polynomial.{terms, limit}
 use Rattle.division.proofs.Asked.{remainder_asked, raised_asked}
 use Rattle.left.proofs.Expanding.{lowest_digits, top_flat, lowest_top}
 use Rattle.left.proofs.block.Goals as goal
 
-pub overflow_mul-w : goal.overflow_mul-w
-unfolding terms limit
-overflow_mul-w c = omega (arith, c.requires.1.held.within)
-
 pub divide-requires : goal.divide-requires
 divide-requires c =
     let p = c.requires in
-    (raised_asked p.0 p.1 p.2, p.3, p.4)
-
-pub overflow_sub-top : goal.overflow_sub-top
-overflow_sub-top c = omega (arith, mul-le-mul_right {m = 1} c.args.s c.requires.2)
+    (raised_asked p.0 p.1 p.2, p.3)
 
 pub returns-then-not-is_constant : goal.returns-then-not-is_constant
 returns-then-not-is_constant c =
     let p = c.requires in
     lowest_top _ p.0 p.1 refl p.3 c.divide.ensures _ (omega (arith, mul-le-mul_right {m = 1} c.args.s p.2)) c.is_constant.ensures c.if-not-is_constant.true
 
-pub overflow_add-top : goal.overflow_add-top
-unfolding terms limit
-overflow_add-top c = omega (arith, c.requires.1.held.within)
-
-pub slice_bounds-digits-end : goal.slice_bounds-digits-end
-slice_bounds-digits-end c = omega (arith, c.divide.ensures.long, c.requires.3, c.requires.0.above_zero, mul-le-mul_right {m = 1} c.args.s c.requires.2)
-
-pub slice_bounds-digits-end-2 : goal.slice_bounds-digits-end-2
-slice_bounds-digits-end-2 c = sym (length-take-le _ _ (omega (arith, c.divide.ensures.long, c.requires.3, c.requires.0.above_zero, mul-le-mul_right {m = 1} c.args.s c.requires.2)))
-
 pub digits-requires : goal.digits-requires
 digits-requires c =
     let p = c.requires in
     let a = c.args in
-    (remainder_asked (a.k * a.s - a.s + 1) p.0 c.divide.ensures (omega arith) (omega (arith, p.0.above_zero, p.3, mul-le-mul_right {m = 1} c.args.s p.2)), p.4)
+    remainder_asked (a.k * a.s - a.s + 1) p.0 c.divide.ensures (omega arith) (omega (arith, p.0.above_zero, p.3, mul-le-mul_right {m = 1} c.args.s p.2))
 
 pub returns : goal.returns
 returns c =

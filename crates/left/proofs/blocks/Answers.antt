@@ -1,55 +1,30 @@
-use mathlib.Core.Path.{refl}
+use mathlib.Core.Path.{◌≡◌, refl}
+use Prim.Native.Nat.{◌+◌, ◌*◌, ◌-◌, ◌/◌}
 use native.Mathlib.Omega.{arith}
-use lib.ListN.{length-drop}
-use Rattle.algebra.specs.Polynomial.{terms, limit}
+use lib.ListN.{length}
 use Rattle.division.proofs.Pieces.{lent, returned}
-use Rattle.division.proofs.Asked.{raised_asked}
-use Rattle.left.proofs.Expanding.{reached-none, reached-more, reached-no, reached_last, reached_asked}
+use Rattle.left.proofs.Expanding.{piece, reached-more, reached-no, reached_last}
 use Rattle.left.proofs.blocks.Goals as goal
-
-pub overflow_mul-w : goal.overflow_mul-w
-unfolding terms limit
-overflow_mul-w c = omega (arith, c.requires.1.held.within)
-
-pub loop-p-init : goal.loop-p-init
-loop-p-init c = (refl, reached-none c.requires.0)
-
-pub overflow_sub-p : goal.overflow_sub-p
-unfolding terms limit
-overflow_sub-p c = omega (arith, c.loop-p.invariant.1.inside)
-
-pub block-requires : goal.block-requires
-block-requires c =
-    let p = c.requires in
-    let l = c.loop-p in
-    rw (lent l.at l.p) (reached_asked p.0.above_zero l.invariant.1 p.0, p.1, p.2, omega (arith, length-drop l.at l.p, c.loop-p-test.true), p.3)
 
 pub returns-then-not-block : goal.returns-then-not-block
 returns-then-not-block c =
-    let p = c.requires in
-    let l = c.loop-p in
-    rw (returned l.at l.p _) (reached-no p.0.above_zero l.invariant.1 _ (rw (lent l.at l.p) at c.block.ensures) c.if-not-block.true)
+    let l = c.loop-i in
+    let at = l.i * (c.args.k * c.args.s) in
+    rw (returned at l.p _) (reached-no c.requires.0.above_zero l.invariant _ (rw (lent at l.p) at c.block.ensures) c.if-not-block.true)
 
-pub loop-p-smaller : goal.loop-p-smaller
-loop-p-smaller c =
-    let p = c.requires in
-    let l = c.loop-p in
-    omega (arith, (raised_asked p.0 p.1 p.2).above_zero, l.invariant.0, l.invariant.1.inside)
-
-pub loop-p-preserved : goal.loop-p-preserved
-loop-p-preserved c =
-    let p = c.requires in
-    let l = c.loop-p in
-    (refl, rw (returned l.at l.p _) (reached-more p.0.above_zero l.invariant.1 _ refl (omega (arith, c.loop-p-test.true)) (rw (lent l.at l.p) at c.block.ensures) c.if-not-block.false))
-
-pub digits-requires : goal.digits-requires
-digits-requires c =
-    let p = c.requires in
-    let l = c.loop-p in
-    rw (lent l.at l.p) (reached_asked p.0.above_zero l.invariant.1 p.0, p.3)
+pub loop-i-preserved : goal.loop-i-preserved
+loop-i-preserved c =
+    let l = c.loop-i in
+    let w = c.args.k * c.args.s in
+    let at = l.i * w in
+    let e : (l.i + 1) * w ≡ l.i * w + w = omega arith in
+    let more = piece _ w l.i c.requires.0.some c.loop-i-test.true in
+    rw (e, returned at l.p _) (reached-more c.requires.0.above_zero l.invariant _ refl (omega (arith, more)) (rw (lent at l.p) at c.block.ensures) c.if-not-block.false)
 
 pub returns : goal.returns
 returns c =
-    let p = c.requires in
-    let l = c.loop-p in
-    rw (returned l.at l.p _) (reached_last p.0.above_zero l.invariant.1 (rw (lent l.at l.p) at c.digits.ensures))
+    let l = c.loop-i in
+    let w = c.args.k * c.args.s in
+    let e : l.i ≡ (length c.args.p.now - 1) / w = omega arith in
+    let at = (length c.args.p.now - 1) / w * w in
+    rw (returned at l.p _) (reached_last c.requires.0.above_zero (rw e at l.invariant) (rw (lent at l.p) at c.digits.ensures))

@@ -1,47 +1,27 @@
-use mathlib.Core.Path.{◌≡◌, refl, sym, ap, ◌∙◌}
-use Prim.Native.Nat.{ℕ}
-use native.Mathlib.Nat as N
+use mathlib.Core.Path.{◌≡◌, refl, sym, ◌∙◌}
+use Prim.Native.Nat.{ℕ, ◌*◌, ◌<◌}
 use native.Mathlib.Omega.{arith}
-use lib.ListN.{length-replicate}
+use native.Mathlib.Decide.{dec_lt}
+use lib.Seq.{get_or-set_other}
 use Rattle.algebra.specs.Polynomial.{coef, terms, limit}
-use Rattle.polynomial.proofs.Filling.{zeros, down-none, down-more, down-all}
+use Rattle.polynomial.proofs.Filling.{zeros, filled_none, filled_more, filled-all}
 use Rattle.left.proofs.Found.{constant-place}
 use Rattle.left.proofs.constants.Goals as goal
 
 pub loop-i-init : goal.loop-i-init
 unfolding terms limit
-loop-i-init c = (omega arith, down-none (length-replicate {A = ℕ} terms 0) (λ j l. zeros terms j ∙ sym (c.requires.3 j l)))
-
-pub overflow_mul-g : goal.overflow_mul-g
-unfolding limit
-overflow_mul-g c = omega (arith, constant-place {i = c.loop-i.i} c.requires.1 c.requires.2 c.loop-i.invariant.0)
-
-pub offset_bounds-a-i : goal.offset_bounds-a-i
-unfolding limit
-offset_bounds-a-i c = omega (arith, constant-place {i = c.loop-i.i} c.requires.1 c.requires.2 c.loop-i.invariant.0)
-
-pub bounds-a-i : goal.bounds-a-i
-unfolding terms
-bounds-a-i c = omega (arith, constant-place {i = c.loop-i.i} c.requires.1 c.requires.2 c.loop-i.invariant.0)
-
-pub offset_bounds-g-i : goal.offset_bounds-g-i
-unfolding limit
-offset_bounds-g-i c = omega (arith, constant-place {i = c.loop-i.i} c.requires.1 c.requires.2 c.loop-i.invariant.0)
-
-pub bounds-g-i : goal.bounds-g-i
-unfolding terms limit
-bounds-g-i c = omega (arith, constant-place {i = c.loop-i.i} c.requires.1 c.requires.2 c.loop-i.invariant.0)
+loop-i-init c = (filled_none refl, λ j l. zeros terms j)
 
 pub loop-i-preserved : goal.loop-i-preserved
 unfolding terms
-loop-i-preserved c = (omega arith, down-more (omega (arith, constant-place {i = c.loop-i.i} c.requires.1 c.requires.2 c.loop-i.invariant.0)) (omega arith) refl c.loop-i.invariant.1)
+loop-i-preserved c =
+    let l = c.loop-i in
+    let place = constant-place {i = l.i} c.requires.1 c.requires.2 (omega arith) in
+    (filled_more (omega arith) refl l.invariant.0, λ j above. get_or-set_other l.g l.i j _ 0 (omega arith) ∙ l.invariant.1 j (omega arith))
 
 pub returns : goal.returns
-unfolding terms limit
-returns c =
-    let e : c.loop-i.i ≡ 0 = omega arith in
-    down-all (omega arith) (ap (coef c.args.a.now) (sym (N.zero-mul c.args.s))) (rw e at c.loop-i.invariant.1)
-
-pub bounds-a-0 : goal.bounds-a-0
-unfolding terms limit
-bounds-a-0 c = omega arith
+returns c = filled-all {i = terms} (omega arith) (record { long = c.loop-i.invariant.0.long; is = λ j l. place j (dec_lt j c.loop-i.i) })
+  where
+    place : (j : ℕ) → Dec (j < c.loop-i.i) → coef c.loop-i.g j ≡ coef c.args.a.now (j * c.args.s)
+    place j (yes l) = c.loop-i.invariant.0.is j l
+    place j (no l) = c.loop-i.invariant.1 j (omega arith) ∙ sym (c.requires.3 j (omega arith))

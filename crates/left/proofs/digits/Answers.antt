@@ -1,41 +1,31 @@
+use mathlib.Core.Path.{◌≡◌}
+use Prim.Native.Nat.{◌+◌, ◌*◌, ◌-◌, ◌/◌}
 use native.Mathlib.Omega.{arith}
-use borrow.Author.Rules.{rules}
-use lib.ListN.{length-drop, take-append-drop}
-use Rattle.algebra.specs.Polynomial.{terms, limit}
+use lib.ListN.{length, length-drop, take-append-drop}
 use Rattle.division.proofs.Pieces.{lent, returned}
-use Rattle.left.proofs.Expanding.{reached-none, reached-more, reached-no, reached_last, reached_asked, flat_digits}
+use Rattle.left.proofs.Expanding.{piece, last_piece, reached-more, reached-no, reached_last, reached_asked, flat_digits}
 use Rattle.left.proofs.digits.Goals as goal
-
-pub loop-p-init : goal.loop-p-init
-loop-p-init c = reached-none c.requires.0
-
-pub overflow_sub-p : goal.overflow_sub-p
-unfolding terms limit
-overflow_sub-p c = omega (arith, c.loop-p.invariant.inside)
-
-pub digit-requires : goal.digit-requires
-digit-requires c =
-    let d = c.requires.0 in
-    let l = c.loop-p in
-    rw (lent l.at l.p) (reached_asked d.above_zero l.invariant d, omega (arith, length-drop l.at l.p, c.loop-p-test.true), c.requires.1)
 
 pub returns-then-not-digit : goal.returns-then-not-digit
 returns-then-not-digit c =
-    let d = c.requires.0 in
-    let l = c.loop-p in
-    rw (returned l.at l.p _) (reached-no d.above_zero l.invariant 1 (rw (lent l.at l.p) at c.digit.ensures) c.if-not-digit.true)
+    let l = c.loop-i in
+    let at = l.i * c.args.s in
+    rw (returned at l.p _) (reached-no c.requires.above_zero l.invariant 1 (rw (lent at l.p) at c.digit.ensures) c.if-not-digit.true)
 
-pub loop-p-preserved : goal.loop-p-preserved
-loop-p-preserved c =
-    let d = c.requires.0 in
-    let l = c.loop-p in
-    rw (returned l.at l.p _) (reached-more d.above_zero l.invariant 1 (omega arith) (omega (arith, c.loop-p-test.true)) (rw (lent l.at l.p) at c.digit.ensures) c.if-not-digit.false)
-
-pub is_constant-requires : goal.is_constant-requires
-is_constant-requires c = search rules
+pub loop-i-preserved : goal.loop-i-preserved
+loop-i-preserved c =
+    let l = c.loop-i in
+    let at = l.i * c.args.s in
+    let e : (l.i + 1) * c.args.s ≡ l.i * c.args.s + c.args.s = omega arith in
+    let more = piece _ c.args.s l.i c.requires.some c.loop-i-test.true in
+    rw (e, returned at l.p _) (reached-more c.requires.above_zero l.invariant 1 (omega arith) (omega (arith, more)) (rw (lent at l.p) at c.digit.ensures) c.if-not-digit.false)
 
 pub returns : goal.returns
 returns c =
-    let d = c.requires.0 in
-    let l = c.loop-p in
-    rw (take-append-drop l.at l.p) at (reached_last d.above_zero l.invariant (flat_digits (reached_asked d.above_zero l.invariant d) (omega (arith, length-drop l.at l.p, c.loop-p-test.false)) (rw (lent l.at l.p) at c.is_constant.ensures)))
+    let d = c.requires in
+    let l = c.loop-i in
+    let e : l.i ≡ (length c.args.p.now - 1) / c.args.s = omega arith in
+    let at = (length c.args.p.now - 1) / c.args.s * c.args.s in
+    let reached = rw e at l.invariant in
+    let short = last_piece (length c.args.p.now) c.args.s d.above_zero in
+    rw (take-append-drop at l.p) at (reached_last d.above_zero reached (flat_digits (reached_asked d.above_zero reached d) (omega (arith, length-drop at l.p, short)) (rw (lent at l.p) at c.is_constant.ensures)))

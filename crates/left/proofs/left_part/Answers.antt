@@ -1,33 +1,23 @@
-use mathlib.Core.Path.{refl, sym, ap, ◌∙◌}
+use mathlib.Core.Path.{refl, ap, ◌∙◌}
 use native.Mathlib.Omega.{arith}
-use lib.Seq.{length-take-le}
-use Rattle.algebra.specs.Polynomial.{terms, limit}
 use Rattle.polynomial.specs.Answers.{nothing}
 use Rattle.left.specs.Left.{none, found}
 use Rattle.left.proofs.Found.{asked_division, asked_long, digits-terms, digits-past, digits-none, digits-found}
 use Rattle.left.proofs.left_part.Goals as goal
 
-pub slice_bounds-expand-end : goal.slice_bounds-expand-end
-unfolding terms
-slice_bounds-expand-end c = sym (length-take-le _ _ (omega (arith, c.requires.0.whole.within, c.requires.0.whole.reduced.long)))
-
 pub expand-requires : goal.expand-requires
 expand-requires c =
-    let p = c.requires.0 in
-    (asked_division p, asked_long p, omega (arith, p.degrees.two_left), c.requires.1)
+    let p = c.requires in
+    (asked_division p, asked_long p, omega (arith, p.degrees.two_left))
 
 -- No. 7: a digit is no constant
 pub returns-then-not-expand : goal.returns-then-not-expand
-returns-then-not-expand c = none (digits-none c.requires.0 c.expand.ensures c.if-not-expand.true) (c.nothing.ensures ∙ ap nothing c.refused.ensures)
-
-pub slice_bounds-constants-end : goal.slice_bounds-constants-end
-unfolding terms limit
-slice_bounds-constants-end c = sym (digits-terms c.requires.0 c.expand.ensures)
+returns-then-not-expand c = none (digits-none c.requires c.expand.ensures c.if-not-expand.true) (c.nothing.ensures ∙ ap nothing c.refused.ensures)
 
 pub constants-requires : goal.constants-requires
 constants-requires c =
-    let p = c.requires.0 in
+    let p = c.requires in
     (digits-terms p c.expand.ensures, omega (arith, p.degrees.two_right), omega (arith, p.degrees.product, p.degrees.within), digits-past p c.expand.ensures)
 
 pub returns : goal.returns
-returns c = found (digits-found c.requires.0 c.expand.ensures c.if-not-expand.false c.constants.ensures) refl
+returns c = found (digits-found c.requires c.expand.ensures c.if-not-expand.false c.constants.ensures) refl

@@ -1,12 +1,11 @@
 use native.Mathlib.Omega.{arith}
-use borrow.Author.Rules.{rules}
 use Rattle.algebra.specs.Polynomial.{limit, terms}
 use Rattle.moving.proofs.Scaling.{changed-is}
 use Rattle.moving.proofs.changed.Goals as goal
 
 pub multiple-requires : goal.multiple-requires
 unfolding terms limit
-multiple-requires c = (search rules, omega arith)
+multiple-requires c = omega arith
 
 pub returns : goal.returns
 returns c = let a = c in changed-is (omega arith) _ _ _ _ a.requires.0.unit c.power.ensures a.requires.1 c.moved-p.ensures c.multiple.ensures

@@ -1,14 +1,13 @@
 use mathlib.Core.Path.{◌∙◌}
 use native.Mathlib.Omega.{arith}
 use lib.ListN.{length-set}
-use borrow.Author.Rules.{rules}
 use Rattle.algebra.specs.Polynomial.{limit, terms}
 use Rattle.moving.proofs.Scaling.{changed-right-is}
 use Rattle.moving.proofs.changed_right.Goals as goal
 
 pub multiple-requires : goal.multiple-requires
 unfolding terms limit
-multiple-requires c = (search rules, length-set c.moved-p.result 0 0 ∙ omega arith)
+multiple-requires c = length-set c.moved-p.result 0 0 ∙ omega arith
 
 pub returns : goal.returns
 returns c = let a = c in changed-right-is (omega arith) _ _ _ _ a.requires.0.unit c.power.ensures a.requires.1 c.moved-p.ensures c.multiple.ensures

@@ -1,10 +1,9 @@
 use native.Mathlib.Omega.{arith}
-use borrow.Author.Rules.{rules}
 use Rattle.moving.proofs.Moving.{composable_line, moved-is}
 use Rattle.moving.proofs.moved.Goals as goal
 
 pub compose-requires : goal.compose-requires
-compose-requires c = (search rules, composable_line c.requires.1 c.line-l.ensures)
+compose-requires c = composable_line c.requires c.line-l.ensures
 
 pub returns : goal.returns
 returns c = moved-is (omega arith) _ _ _ c.line-l.ensures c.compose.ensures

@@ -11,14 +11,6 @@ pub loop-k-init : goal.loop-k-init
 unfolding terms limit
 loop-k-init c = (omega arith, filled_none refl)
 
-pub bounds-p-k : goal.bounds-p-k
-unfolding terms limit
-bounds-p-k c = omega arith
-
-pub loop-k-smaller : goal.loop-k-smaller
-unfolding terms limit
-loop-k-smaller c = omega arith
-
 pub loop-k-preserved : goal.loop-k-preserved
 unfolding terms limit
 loop-k-preserved c = (omega arith, filled_more (omega arith) c.multiply.ensures c.loop-k.invariant.1)

@@ -1,56 +1,52 @@
 use mathlib.Core.Path.{◌≡◌}
-use Prim.Native.Nat.{◌+◌, ◌*◌, ◌-◌}
+use Prim.Native.Nat.{◌+◌, ◌*◌, ◌-◌, ◌/◌}
+use native.Mathlib.Nat.{zero-mul, div-mul-le_self}
 use native.Mathlib.Omega.{arith}
 use lib.ListN.{length-drop}
-use Rattle.algebra.specs.Polynomial.{terms, limit}
 use Rattle.division.proofs.Pieces.{lent, returned}
-use Rattle.report.proofs.Reporting.{digits-end, expanded_none, expanded_asked, expanded_more}
+use Rattle.report.proofs.Reporting.{digits-end, whole_block, expanded_none, expanded_asked, expanded_more}
 use Rattle.report.proofs.all_digits.Goals as goal
 
 pub loop-i-init : goal.loop-i-init
-loop-i-init c = (omega arith, omega (arith, c.requires.0.some), expanded_none c.requires.0)
-
-pub overflow_mul-at : goal.overflow_mul-at
-unfolding terms limit
-overflow_mul-at c = omega (arith, c.loop-i.invariant.2.long, c.requires.0.inside)
+loop-i-init c = rw (zero-mul c.args.k, zero-mul c.args.s) (c.requires.0.some, expanded_none c.requires.0)
 
 pub digits_at_once-requires : goal.digits_at_once-requires
 digits_at_once-requires c =
     let p = c.requires in
     let a = c.args in
     let l = c.loop-i in
-    let e = digits-end l.i a.k a.r a.s (omega (arith, c.loop-i-test.true)) in
-    rw (lent (l.i * a.s) l.p) (expanded_asked p.0 l.invariant.2 l.invariant.1, p.1, p.2, omega (arith, p.3, l.invariant.2.long, length-drop (l.i * a.s) l.p), p.4)
-
-pub loop-i-smaller : goal.loop-i-smaller
-unfolding terms limit
-loop-i-smaller c = omega (arith, c.requires.2, c.loop-i-test.true)
+    let n = l.i * a.k in
+    let e = digits-end n a.k a.r a.s (whole_block l.i a.k a.r c.loop-i-test.true) in
+    rw (lent (n * a.s) l.p) (expanded_asked p.0 l.invariant.1 l.invariant.0, p.1, p.2, omega (arith, e, p.3, l.invariant.1.long, length-drop (n * a.s) l.p))
 
 pub loop-i-preserved : goal.loop-i-preserved
 loop-i-preserved c =
     let p = c.requires in
     let a = c.args in
     let l = c.loop-i in
-    let e = digits-end l.i a.k a.r a.s (omega (arith, c.loop-i-test.true)) in
-    let x = expanded_more p.0 l.invariant.2 (omega (arith, l.invariant.1)) (rw (lent (l.i * a.s) l.p) at c.digits_at_once.ensures) in
-    rw (returned (l.i * a.s) l.p _) (omega (arith, c.loop-i-test.true), omega (arith, p.3, x.long), x)
-
-pub overflow_mul-at-2 : goal.overflow_mul-at-2
-unfolding terms limit
-overflow_mul-at-2 c = omega (arith, c.loop-i.invariant.2.long, c.requires.0.inside)
+    let n = l.i * a.k in
+    let f : (l.i + 1) * a.k ≡ n + a.k = omega arith in
+    let g : (n + a.k) * a.s ≡ n * a.s + a.k * a.s = omega arith in
+    let e = digits-end n a.k a.r a.s (whole_block l.i a.k a.r c.loop-i-test.true) in
+    let x = expanded_more p.0 l.invariant.1 (omega (arith, l.invariant.0)) (rw (lent (n * a.s) l.p) at c.digits_at_once.ensures) in
+    rw (f, returned (n * a.s) l.p _) (omega (arith, e, g, p.3, x.long), x)
 
 pub each_digit-requires : goal.each_digit-requires
 each_digit-requires c =
     let p = c.requires in
     let a = c.args in
-    let l = c.loop-i in
-    let e = digits-end l.i (a.r - l.i) a.r a.s (omega (arith, l.invariant.0)) in
-    rw (lent (l.i * a.s) l.p) (expanded_asked p.0 l.invariant.2 l.invariant.1, omega (arith, p.3, l.invariant.2.long, length-drop (l.i * a.s) l.p), p.4)
+    let f : c.loop-i.i ≡ a.r / a.k = omega arith in
+    let l = rw f at c.loop-i.invariant in
+    let n = a.r / a.k * a.k in
+    let e = digits-end n (a.r - n) a.r a.s (omega (arith, div-mul-le_self a.r a.k)) in
+    rw (lent (n * a.s) c.loop-i.p) (expanded_asked p.0 l.1 l.0, omega (arith, e, p.3, l.1.long, length-drop (n * a.s) c.loop-i.p))
 
 pub returns : goal.returns
 returns c =
     let p = c.requires in
     let a = c.args in
-    let l = c.loop-i in
-    let e : l.i + (a.r - l.i) ≡ a.r = omega (arith, l.invariant.0) in
-    rw (returned (l.i * a.s) l.p _) (rw e at (expanded_more p.0 l.invariant.2 (omega (arith, l.invariant.1)) (rw (lent (l.i * a.s) l.p) at c.each_digit.ensures)))
+    let f : c.loop-i.i ≡ a.r / a.k = omega arith in
+    let l = rw f at c.loop-i.invariant in
+    let n = a.r / a.k * a.k in
+    let e : n + (a.r - n) ≡ a.r = omega (arith, div-mul-le_self a.r a.k) in
+    rw (returned (n * a.s) c.loop-i.p _) (rw e at (expanded_more p.0 l.1 (omega (arith, l.0)) (rw (lent (n * a.s) c.loop-i.p) at c.each_digit.ensures)))

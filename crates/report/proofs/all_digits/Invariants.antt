@@ -1,10 +1,7 @@
-use Prim.Native.Nat.{◌*◌, ◌-◌, ◌≤◌, ◌<◌}
+use Prim.Native.Nat.{◌*◌, ◌<◌}
 use lib.ListN.{length}
 use Rattle.report.specs.Report.{Expanded}
 use Rattle.report.proofs.all_digits.Given as goal
 
 abbrev pub invariant-loop-i : goal.invariant-loop-i
-invariant-loop-i l = (l.i ≤ l.r) × (l.i * l.s < length l.p) × Expanded l.m.number l.h l.s l.i l.initial.p l.p
-
-abbrev pub decreases-loop-i : goal.decreases-loop-i
-decreases-loop-i l = l.r - l.i
+invariant-loop-i l = (l.i * l.k * l.s < length l.p) × Expanded l.m.number l.h l.s (l.i * l.k) l.initial.p l.p

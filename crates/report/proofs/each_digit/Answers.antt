@@ -2,7 +2,6 @@ use mathlib.Core.Path.{◌≡◌}
 use Prim.Native.Nat.{◌*◌}
 use native.Mathlib.Omega.{arith}
 use lib.ListN.{length-drop}
-use Rattle.algebra.specs.Polynomial.{terms, limit}
 use Rattle.division.proofs.Pieces.{lent, returned}
 use Rattle.report.proofs.Reporting.{digits-end, expanded_none, expanded_one, expanded_asked, expanded_more}
 use Rattle.report.proofs.each_digit.Goals as goal
@@ -10,17 +9,13 @@ use Rattle.report.proofs.each_digit.Goals as goal
 pub loop-i-init : goal.loop-i-init
 loop-i-init c = (omega arith, omega arith, expanded_none c.requires.0)
 
-pub overflow_mul-at : goal.overflow_mul-at
-unfolding terms limit
-overflow_mul-at c = omega (arith, c.loop-i.invariant.2.long, c.requires.0.inside)
-
 pub divide-requires : goal.divide-requires
 divide-requires c =
     let p = c.requires in
     let a = c.args in
     let l = c.loop-i in
     let e = digits-end l.i 1 a.n a.s (omega (arith, c.loop-i-test.true)) in
-    rw (lent (l.i * a.s) l.p) (expanded_asked p.0 l.invariant.2 (omega (arith, p.0.above_zero, p.1, l.invariant.2.long)), omega (arith, p.1, l.invariant.2.long, length-drop (l.i * a.s) l.p), p.2)
+    rw (lent (l.i * a.s) l.p) (expanded_asked p.0 l.invariant.2 (omega (arith, p.0.above_zero, p.1, l.invariant.2.long)), omega (arith, p.1, l.invariant.2.long, length-drop (l.i * a.s) l.p))
 
 pub loop-i-preserved : goal.loop-i-preserved
 loop-i-preserved c =

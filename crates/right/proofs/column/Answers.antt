@@ -12,24 +12,15 @@ loop-i-init c = (omega arith, omega arith, column_none)
 pub inner_product-x-requires : goal.inner_product-x-requires
 unfolding words terms limit
 inner_product-x-requires c =
-    let p : c.loop-i.at + c.args.w < words = omega (arith, column_place c.loop-i.i c.args.n c.args.w c.args.k (omega arith) (omega arith) c.requires.1.room) in
-    (c.requires.0, record { order = omega arith; first = omega arith; down = omega arith; second = omega arith; few = omega arith })
-
-pub overflow_add-at : goal.overflow_add-at
-overflow_add-at c = omega (arith, column_place c.loop-i.i c.args.n c.args.w c.args.k (omega arith) (omega arith) c.requires.1.room)
-
-pub offset_bounds-t-at : goal.offset_bounds-t-at
-offset_bounds-t-at c = omega (arith, column_place c.loop-i.i c.args.n c.args.w c.args.k (omega arith) (omega arith) c.requires.1.room)
-
-pub bounds-t-at : goal.bounds-t-at
-bounds-t-at c = omega (arith, column_place c.loop-i.i c.args.n c.args.w c.args.k (omega arith) (omega arith) c.requires.1.room)
+    let p : c.loop-i.at + c.args.w < words = omega (arith, column_place c.loop-i.i c.args.n c.args.w c.args.k (omega arith) (omega arith) c.requires.room) in
+    record { order = omega arith; first = omega arith; down = omega arith; second = omega arith; few = omega arith }
 
 pub loop-i-preserved : goal.loop-i-preserved
 loop-i-preserved c =
     let l = c.loop-i in (
       omega arith,
       omega arith,
-      column_more (omega arith) (omega arith) (omega arith) l.invariant.1 (omega (arith, column_place c.loop-i.i c.args.n c.args.w c.args.k (omega arith) (omega arith) c.requires.1.room)) (omega arith) c.inner_product-x.ensures l.invariant.2,
+      column_more (omega arith) (omega arith) (omega arith) l.invariant.1 (omega (arith, column_place c.loop-i.i c.args.n c.args.w c.args.k (omega arith) (omega arith) c.requires.room)) (omega arith) c.inner_product-x.ensures l.invariant.2,
     )
 
 pub returns : goal.returns
