@@ -2,7 +2,7 @@
 --
 --   row_first                                    row 0
 --   Stepped j top i b                            from the right, the places down to i are those of row j + 1 already
---   stepped_none, stepped_more, stepped_all      no place, one more, all
+--   stepped_more, stepped_all                    one place more, all
 --   sum_fits                                     the sum of two neighbours fits a word
 --   table-end, table-row                         row r in the table: it lies there, and it is that row
 --   row_to                                       a whole row, as far as a place
@@ -33,9 +33,6 @@ pub record Stepped (j top i : ℕ) (b : List ℕ) : Type 0 where
   pub long : top < length b
   pub low : (k : ℕ) → k ≤ i → get_or b k 0 ≡ choose j k
   pub high : (k : ℕ) → i < k → k ≤ top → get_or b k 0 ≡ choose (j + 1) k
-
-pub stepped_none : {j top : ℕ} {b : List ℕ} → HasRow j top b → Stepped j top top b
-stepped_none h = record { long = h.long; low = h.is; high = λ k a l. absurd (omega arith) }
 
 pub stepped_more : {j top : ℕ} (i : ℕ) {b : List ℕ} {x : ℕ} → 0 < i → i ≤ top → x ≡ get_or b i 0 + get_or b (i - 1) 0 → Stepped j top i b → Stepped j top (i - 1) (set b i x)
 stepped_more zero p l e h = absurd (omega arith)

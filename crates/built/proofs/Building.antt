@@ -11,7 +11,7 @@
 --   product_places               the places that its sum asks for are there
 --   product-past, product-all    where it ends; all its places
 --   Searched m f k               above x^k there is nothing
---   searched_none, searched_more, searched_low, not_low      a search for it from the top
+--   searched_none, searched_low, not_low      a search for it from the top
 use mathlib.Core.Path.{◌≡◌, sym, ap, ap₂, ◌∙◌}
 use mathlib.Core.List.{List}
 use Prim.Native.Nat.{ℕ, suc, ◌+◌, ◌-◌, ◌*◌, ◌%◌, ◌≤◌, ◌<◌, min, max}
@@ -138,14 +138,6 @@ pub product-all : (m : ℕ) {n s d i : ℕ} (x y : List ℕ) {c : List ℕ} → 
 unfolding reduced terms
 product-all m x y a b e l f = front_all (λ j h t. product-past m x y a b j (omega arith)) f
 
--- one zero more
-pub zeros_more : (x : List ℕ) {i : ℕ} → ((j : ℕ) → j < i → coef x j ≡ 0) → coef x i ≡ 0 → (j : ℕ) → j < i + 1 → coef x j ≡ 0
-zeros_more x {i} z e j l = go (dec_lt j i)
-  where
-    go : Dec (j < i) → coef x j ≡ 0
-    go (yes b) = z j b
-    go (no b) = let q : j ≡ i = omega arith in rw q e
-
 -- the places that the sum asks for are there
 pub product_places : (x y : List ℕ) (k lo hi : ℕ) → length x ≡ terms → length y ≡ terms → k ≤ degree x + degree y → lo ≡ k - degree y → hi ≡ min k (degree x) + 1
     → Within (length x) (length y) k lo hi
@@ -162,13 +154,6 @@ pub record Searched (m : ℕ) (f : List ℕ) (k : ℕ) : Type 0 where
 
 pub searched_none : (m : ℕ) (x y : List ℕ) (k : ℕ) → k ≡ degree x + degree y → Searched m (times x y) k
 searched_none m x y k e = record { none = λ i l. ap (λ (n : ℕ). n % m) (product_zero x y i (omega arith)) ∙ N.zero-mod m }
-
-pub searched_more : {m : ℕ} {f : List ℕ} {k j r : ℕ} → k ≡ j + 1 → r ≡ coef f k % m → r ≡ 0 → Searched m f k → Searched m f j
-searched_more {m} {f} {k} {j} o e z s = record { none = λ i l. go i l (dec_lt k i) }
-  where
-    go : (i : ℕ) → j < i → Dec (k < i) → coef f i % m ≡ 0
-    go i l (yes b) = s.none i b
-    go i l (no b) = let q : i ≡ k = omega arith in rw q (sym e ∙ z)
 
 pub searched_low : {m : ℕ} {f : List ℕ} {k : ℕ} → k ≤ limit → Searched m f k → Low m f
 searched_low l s = record { above = λ i h. s.none i (omega arith) }

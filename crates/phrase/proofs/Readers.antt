@@ -169,9 +169,6 @@ module _ (m : ℕ) (s : List ℕ) (at d : ℕ) where
   unfolding meaning Within
   product-first c = record { tree = single c.tree; ahead = c.ahead; inside = c.inside; held = c.held; leads = λ st f e. c.leads st (frame (before_of f) none) e; ends = λ st f z. c.ends st (frame (before_of f) none) z }
 
-  pub product-end : {k : ℕ} {v : Option Built} → (k < length s → get_or s k 0 ≡ 42 → ⊥) → Done a_product a_factor m s at d k v → Done a_product a_product m s at d k v
-  product-end n c = record { tree = c.tree; ahead = c.ahead; inside = c.inside; held = c.held; leads = c.leads; ends = λ st f z. c.ends st f z (n z) }
-
   module _ {k : ℕ} {v : Option Built} (c : Done a_product a_factor m s at d k v) (l : k < length s) (b : get_or s k 0 ≡ 42) where
     times-run : (st : List Frame) (f : Frame) → length st ≡ d → run most_deep (expect st (frame (before_of f) none)) (drop at s) ≡ run most_deep (expect st (frame (before_of f) (some c.tree))) (drop (k + 1) s)
     times-run st f e = c.leads st f e ∙ run-byte (at_product st (before_of f) c.tree) (expect st (frame (before_of f) (some c.tree))) s k 42 l b (product-times most_deep st (before_of f) c.tree)
