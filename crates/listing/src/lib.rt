@@ -1,7 +1,7 @@
 // The listing: the lines of text for records.
 #![tactic(auto)]
 
-ghost use Rattle.std.specs.Prelude.{◌≡◌, [], ◌∷◌, ◌++◌, ◌+◌, ◌*◌, ◌<◌, ◌≤◌, ◌^◌, length};
+ghost use Rattle.std.specs.Prelude.{◌≡◌, [], ◌∷◌, ◌+◌, ◌*◌, ◌<◌, ◌≤◌, ◌^◌, length};
 ghost use Rattle.refusal.specs.Refusal.{number_of};
 ghost use Rattle.algebra.specs.Number.{table};
 ghost use Rattle.algebra.specs.Polynomial.{degree as degree_of};
@@ -9,11 +9,11 @@ ghost use Rattle.refusal.specs.Refusal.{Answered};
 ghost use Rattle.binomial.specs.Triangle.{rows, triangle};
 ghost use Rattle.polynomial.specs.Moduli.{modulus};
 ghost use Rattle.polynomial.specs.Checks.{check_one};
-ghost use Rattle.digits.specs.Digits.{decimal, Put};
+ghost use Rattle.digits.specs.Digits.{Put};
 ghost use Rattle.area.specs.Area.{most_parts, area_words, place};
 ghost use Rattle.record.specs.Record.{record_bytes};
 ghost use Rattle.listing.specs.Listing.{LineIn, AcceptedIn, most_records, most_lines, LinesIn};
-ghost use Rattle.listing.specs.Text.{most_field, before_degrees, most_line, spaced as spaced_of, fields};
+ghost use Rattle.listing.specs.Text.{most_field, most_line, spaced as spaced_of, fields};
 
 use binomial::ENTRIES;
 use polynomial::{Coefficients, TERMS};

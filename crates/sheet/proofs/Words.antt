@@ -3,7 +3,6 @@
 --   Bytes b, bytes_piece      numbers that are bytes, and those of a piece
 --   word_small                a word of bytes fits 32 bits
 --   word_piece                a word is that of its own four bytes
---   four_stores               the four stores of a word
 --   word_first, word_next, word_last     the stores of a record
 --   word_record               the words of the record of w and p
 --   coefficients_record       and its polynomial
@@ -14,15 +13,15 @@
 --   recorded-none, recorded-some     what is put into the place of a part that is not used, and of one that is
 use mathlib.Core.Path.{◌≡◌, refl, sym, ap, ap₂, ◌∙◌}
 use mathlib.Core.Bool.{Bool, true, false}
-use mathlib.Core.List.{List, [], ◌∷◌, ◌++◌, append-nil, append_assoc}
+use mathlib.Core.List.{List, [], ◌∷◌, ◌++◌, append-nil}
 use Prim.Native.Nat.{ℕ, zero, suc, ◌+◌, ◌*◌, ◌/◌, ◌%◌, ◌^◌, ◌≤◌, ◌<◌}
 use native.Mathlib.Nat as N
 use native.Mathlib.Omega.{arith}
 use native.Mathlib.Decide.{dec_lt}
 use native.Mathlib.Numerals.{add-one}
 use borrow.Author.Tests.{eq-eqb}
-use lib.ListN.{length, take, drop, replicate, length-replicate, length-drop, length-take, drop_of_length-le, get_or, set, get_or-eq_default}
-use lib.Seq.{ext_get_or, get_or-take, get_or-drop, length-take-le, take_all, drop-drop, sets-eq}
+use lib.ListN.{length, take, drop, replicate, length-replicate, length-drop, length-take, drop_of_length-le, get_or, get_or-eq_default}
+use lib.Seq.{ext_get_or, get_or-take, get_or-drop, length-take-le, take_all}
 use Rattle.algebra.specs.Polynomial.{coef, terms}
 use Rattle.algebra.proofs.Numbers.{table_below}
 use Rattle.area.specs.Area.{all_zero}
@@ -71,15 +70,6 @@ word_piece b i =
 word_bytes : (w : ℕ) → w < 2 ^ 32 → word (bytes w) 0 ≡ w
 unfolding word bytes
 word_bytes w l = omega arith
-
--- the four stores of a word
-pub four_stores : (r : List ℕ) (at a b c d : ℕ) → at + 4 ≤ length r
-    → set (set (set (set r at a) (at + 1) b) (at + 2) c) (at + 3) d ≡ take at r ++ ((a ∷ b ∷ c ∷ d ∷ []) ++ drop 4 (drop at r))
-four_stores r at a b c d h =
-    let one : at + 1 ≡ suc at = omega arith in
-    let two : at + 2 ≡ suc (suc at) = omega arith in
-    let three : at + 3 ≡ suc (suc (suc at)) = omega arith in
-    rw (one, two, three, drop-drop 4 at r) (sets-eq (a ∷ b ∷ c ∷ d ∷ []) r at h ∙ append_assoc (take at r) (a ∷ b ∷ c ∷ d ∷ []) (drop (at + 4) r))
 
 -- word j of the record of w and p
 abbrev pub words : ℕ → List ℕ → ℕ → List ℕ

@@ -2,10 +2,9 @@
 #![tactic(auto)]
 
 ghost use Rattle.std.specs.Prelude.{◌≡◌, ◌*◌, ◌≤◌, length};
-ghost use Rattle.record.specs.Record.{record_bytes};
 ghost use Rattle.sheet.specs.Sheet.{sheet_bytes};
 ghost use Rattle.reading.specs.Running.{RunOf};
-ghost use Rattle.sheets.specs.Sheets.{most_sheets, sheets_buffer, SheetOf, SheetsOf, SheetsIn, Makes};
+ghost use Rattle.sheets.specs.Sheets.{most_sheets, sheets_buffer, SheetOf, SheetsIn, Makes};
 
 use reading::{Failed, LAST, Maker};
 
