@@ -1,5 +1,5 @@
 // Chain sheets: the refusals that the writer and the reader share, by the places of an area.
-#![tactic(auto)]
+#![tactic(auto, unfolding(sheet::specs::Sheet::sheet_bytes, record::specs::Record::record_bytes, area::specs::Area::area_words, area::specs::Area::most_parts, algebra::specs::Polynomial::limit, algebra::specs::Polynomial::terms))]
 
 ghost use Rattle.std.specs.Prelude.{◌≡◌, ◌+◌, ◌*◌, ◌≤◌, ◌<◌, length};
 ghost use Rattle.algebra.specs.Polynomial.{limit};
@@ -17,10 +17,7 @@ use refusal::{Reason, Refusal};
 pub fn check_room(bytes: usize, words: usize) -> Result<(), Refusal>
     ensures { result ≡ check_room_of bytes words }
 {
-    if bytes < sheet::BYTES {
-        return Err(Reason::Area.into());
-    }
-    if words < area::WORDS {
+    if bytes < sheet::BYTES || words < area::WORDS {
         return Err(Reason::Area.into());
     }
     Ok(())
