@@ -7,7 +7,9 @@
 --   product-within                past No. 10 the product is within the limit
 --   write_short, write_refused, write_made              each return of the writer
 --   filled-used, filled_rising, filled-composes         what the steps of the reader ask of a filled area
---   read_short, read-refused, read_rejected, read_taken each return of the reader
+--   records_stopped, rest_stopped, sheet_taken          what the reader has taken, by its checks
+--   read_short, read_refused, read_taken                each return of the reader
+use Rattle.std.specs.Prelude.{Ok, Err}
 use mathlib.Core.Path.{◌≡◌, refl, sym, ap, ap₂, ◌∙◌}
 use mathlib.Core.Bool.{Bool, true, false}
 use mathlib.Core.List.{List, ◌++◌}
@@ -17,20 +19,20 @@ use lib.Dec.{ltb}
 use lib.ListN.{length, drop}
 use Rattle.algebra.specs.Polynomial.{limit, reduced}
 use Rattle.algebra.specs.Chain.{composed, degrees, product}
-use Rattle.refusal.specs.Refusal.{◌then◌, is_refused}
-use Rattle.refusal.specs.Refusal.{Outcome}
-use Rattle.refusal.specs.Refusal.{Answered}
-use Rattle.refusal.proofs.Outcomes.{answered, then_refused, then_both, then_assoc, stopped, refused_by, passed_on, refuse-answered}
+use Rattle.refusal.specs.Refusal.{Outcome, Answered, Refused, ◌then◌, is_refused}
+use Rattle.refusal.specs.declared.Refusal.{Refusal}
+use Rattle.refusal.proofs.Outcomes.{then_refused, then_both, then_assoc, refuse-answered}
 use Rattle.polynomial.specs.Moduli.{modulus, check_modulus}
 use Rattle.polynomial.proofs.Acceptance.{neither}
 use Rattle.area.specs.Area.{most_parts, area_words, place, cleared}
 use Rattle.record.specs.Record.{word}
 use Rattle.sheet.specs.Sheet.{sheet_bytes, record_at, used, sheet_of, held, area_of, parts_in}
 use Rattle.sheet.specs.Checks.{check_room, check_order, check_records, check_moduli, check_parts, check_product, check_sheet, check_area, check_writer}
-use Rattle.sheet.specs.Answers.{unread, ReadsSheet, WritesSheet}
+use Rattle.sheet.specs.declared.Sheet.{Sheet}
+use Rattle.sheet.specs.Answers.{unread, contents_of, ReadsSheet, WritesSheet}
 use Rattle.sheet.specs.Answers as of
-use Rattle.sheet.specs.Steps.{Taken, Used, Rising, Composes}
-use Rattle.sheet.specs.Answers.{Contents}
+use Rattle.sheet.specs.Steps.{Taken, TakesSheet, Used, Rising, Composes}
+use Rattle.sheet.specs.Steps as steps
 use Rattle.sheet.proofs.Checking.{parts_ext, product_ext}
 use Rattle.sheet.proofs.Taking.{place-taken, used-same, records_rising, records_parted, sheet_modulus, rising_ext, parted_ext}
 
@@ -98,22 +100,22 @@ pub product-within : (g : ℕ → List ℕ) → check_product g ≡ Answered →
 unfolding check_product
 product-within g h = ltb-false _ _ (refuse-answered _ _ _ h)
 
-module _ (w : ℕ) (xs b : List ℕ) {o : Outcome} (o_is : o ≡ check_room (length b) (length xs)) {t : Bool} (tells : t ≡ is_refused o) where
+module _ (w : ℕ) (xs b : List ℕ) where
   -- 11
-  pub write_short : t ≡ true → WritesSheet w xs b b o
+  pub write_short : {r : Refusal} → check_room (length b) (length xs) ≡ Refused r → WritesSheet w xs b b (Refused r)
   unfolding check_writer
-  write_short h = let (r, e, q) = refused_by o_is tells h in of.refused {r = r} (sym (stopped o_is tells _ h) ∙ q) refl q
+  write_short e = of.refused (simp e) refl refl
 
-  module _ (left : t ≡ false) {p : Outcome} (p-is : p ≡ check_area w xs) {s : Bool} (says : s ≡ is_refused p) where
+  module _ (fits : check_room (length b) (length xs) ≡ Answered) where
     -- any other
-    pub write_refused : s ≡ true → WritesSheet w xs b b p
+    pub write_refused : {r : Refusal} → check_area w xs ≡ Refused r → WritesSheet w xs b b (Refused r)
     unfolding check_writer
-    write_refused h = let (r, e, q) = refused_by p-is says h in of.refused {r = r} (simp (passed_on o_is tells left) e) refl q
+    write_refused e = of.refused (simp fits e) refl refl
 
     -- none
-    pub write_made : s ≡ false → {c : List ℕ} → c ≡ sheet_of w xs ++ drop sheet_bytes b → WritesSheet w xs b c Answered
+    pub write_made : check_area w xs ≡ Answered → {c : List ℕ} → c ≡ sheet_of w xs ++ drop sheet_bytes b → WritesSheet w xs b c Answered
     unfolding check_writer
-    write_made h e = of.made (simp (passed_on o_is tells left) (passed_on p-is says h)) e refl
+    write_made e q = of.made (simp fits e) q refl
 
 -- a filled area
 module _ (b xs : List ℕ) {zs : List ℕ} (z_is : zs ≡ area_of b ++ drop area_words xs) where
@@ -141,51 +143,54 @@ module _ (b xs : List ℕ) {zs : List ℕ} (z_is : zs ≡ area_of b ++ drop area
       → f ≡ reduced (modulus (word b 0)) (composed (parts_in (held b) most_parts))
   filled-composition d e q = q ∙ ap₂ (λ (m : ℕ) (l : List (List ℕ)). reduced m (composed l)) (e ∙ ap modulus d) (parts_ext (place zs) (held b) most_parts (λ i l. sym (filled i l)))
 
-module _ (b xs : List ℕ) {o : Outcome} (o_is : o ≡ check_room (length b) (length xs)) {t : Bool} (tells : t ≡ is_refused o) where
+-- what the steps of the reader have taken
+module _ (b xs : List ℕ) {zs : List ℕ} where
+  -- 1 to 4
+  pub records_stopped : {r : Refusal} → Taken b xs zs (Refused r) → TakesSheet b xs zs (Err r)
+  unfolding check_sheet
+  records_stopped t = steps.refused (rw (← t.outcome) refl) t.past refl
+
+  module _ (t : Taken b xs zs Answered) where
+    z_is : zs ≡ area_of b ++ drop area_words xs
+    z_is = t.filled refl
+
+    pub taken-used : Used b zs
+    taken-used = filled-used b xs z_is (sym t.outcome)
+
+    pub taken_rising : Rising (place zs)
+    taken_rising = filled_rising b xs z_is (sym t.outcome)
+
+    -- the checks past 1 to 4, as they are made of the area
+    module _ {o : Outcome} (rest : (check_order (λ i. used (record_at b i)) then check_moduli b then check_product (place zs)) ≡ o) where
+      all : check_sheet b ≡ o
+      unfolding check_sheet
+      all = rw (← t.outcome, ← filled-product b xs z_is) rest
+
+    -- 12 and 10
+    pub rest_stopped : {r : Refusal} → (check_order (λ i. used (record_at b i)) then check_moduli b then check_product (place zs)) ≡ Refused r → TakesSheet b xs zs (Err r)
+    rest_stopped e = steps.refused (all e) t.past refl
+
+    module _ (rest : (check_order (λ i. used (record_at b i)) then check_moduli b then check_product (place zs)) ≡ Answered) where
+      pub taken-composes : (check_modulus (modulus (word b 0)) ≡ Answered) × Composes (modulus (word b 0)) (place zs)
+      taken-composes = filled-composes b xs z_is (all rest)
+
+      -- none
+      pub sheet_taken : {f : List ℕ} {m w : ℕ} → w ≡ word b 0 → m ≡ modulus w → f ≡ reduced m (composed (parts_in (place zs) most_parts))
+          → TakesSheet b xs zs (Ok (record { modulus = w; polynomial = f }))
+      sheet_taken d e k = steps.taken (all rest) z_is (simp (filled-composition b xs z_is d e k, d))
+
+module _ (b xs : List ℕ) where
   -- 11
-  pub read_short : t ≡ true → {x : Contents} → x ≡ unread o → ReadsSheet b xs xs x
-  read_short h e = let (r, c, q) = refused_by o_is tells h in of.short {r = r} c refl (e ∙ ap unread q)
+  pub read_short : {r : Refusal} → check_room (length b) (length xs) ≡ Refused r → ReadsSheet b xs xs (unread (Refused r))
+  read_short e = of.short e refl refl
 
-  module _ (left : t ≡ false) {zs : List ℕ} {p : Outcome} (taken : Taken b xs zs p) {s : Bool} (says : s ≡ is_refused p) where
-    -- 1 to 4
-    pub read-refused : s ≡ true → {x : Contents} {ys : List ℕ} → (x ≡ unread p) × (ys ≡ cleared zs) → ReadsSheet b xs ys x
-    unfolding check_sheet
-    read-refused h (e, a) =
-        let (r, c, q) = refused_by taken.outcome says h in
-        of.refused {r = r} (passed_on o_is tells left) (sym (stopped taken.outcome says _ h) ∙ q) (a ∙ taken.past) (e ∙ ap unread q)
+  module _ (fits : check_room (length b) (length xs) ≡ Answered) {zs : List ℕ} where
+    -- any other, once the places are zeroed
+    pub read_refused : {r : Refusal} → TakesSheet b xs zs (Err r) → {ys : List ℕ} → ys ≡ cleared zs → ReadsSheet b xs ys (unread (Refused r))
+    read_refused (steps.refused e a q) z = of.refused fits e (z ∙ a) (ap contents_of q)
+    read_refused (steps.taken e a q) z = cc
 
-    module _ (passed : s ≡ false) where
-      records : check_records b ≡ Answered
-      records = passed_on taken.outcome says passed
-
-      z_is : zs ≡ area_of b ++ drop area_words xs
-      z_is = taken.filled (answered (sym says ∙ passed))
-
-      pub taken-used : Used b zs
-      taken-used = filled-used b xs z_is records
-
-      pub taken_rising : Rising (place zs)
-      taken_rising = filled_rising b xs z_is records
-
-      module _ {q : Outcome} (q-is : q ≡ (check_order (λ i. used (record_at b i)) then check_moduli b then check_product (place zs))) {u : Bool} (talks : u ≡ is_refused q) where
-        rest : q ≡ (check_order (λ i. used (record_at b i)) then check_moduli b then check_product (held b))
-        rest = q-is ∙ ap (λ (y : Outcome). check_order (λ i. used (record_at b i)) then check_moduli b then y) (filled-product b xs z_is)
-
-        -- 12 and 10
-        pub read_rejected : u ≡ true → {x : Contents} {ys : List ℕ} → (x ≡ unread q) × (ys ≡ cleared zs) → ReadsSheet b xs ys x
-        unfolding check_sheet
-        read_rejected h (e, a) =
-            let (r, c, w) = refused_by rest talks h in
-            of.refused {r = r} (passed_on o_is tells left) (simp records c) (a ∙ taken.past) (e ∙ ap unread w)
-
-        -- none
-        read_passes : u ≡ false → check_sheet b ≡ Answered
-        unfolding check_sheet
-        read_passes h = simp records (passed_on rest talks h)
-
-        pub taken-composes : u ≡ false → (check_modulus (modulus (word b 0)) ≡ Answered) × Composes (modulus (word b 0)) (place zs)
-        taken-composes h = filled-composes b xs z_is (read_passes h)
-
-        pub read_taken : u ≡ false → {f : List ℕ} {m w : ℕ} → w ≡ word b 0 → m ≡ modulus w → f ≡ reduced m (composed (parts_in (place zs) most_parts))
-            → ReadsSheet b xs zs (record { outcome = Answered; modulus = w; polynomial = f })
-        read_taken h d e k = of.taken (passed_on o_is tells left) (read_passes h) z_is (simp (filled-composition b xs z_is d e k, d))
+    -- none
+    pub read_taken : {x : Sheet} → TakesSheet b xs zs (Ok x) → ReadsSheet b xs zs (contents_of (Ok x))
+    read_taken (steps.refused e a q) = cc
+    read_taken (steps.taken e a q) = of.taken fits e a (ap contents_of q)

@@ -18,12 +18,11 @@ use native.Mathlib.Numerals.{add-one}
 use lib.Dec.{ltb}
 use Rattle.algebra.specs.Polynomial.{limit}
 use Rattle.algebra.specs.Chain.{degrees, product}
-use Rattle.refusal.specs.Refusal.{◌then◌, refuse, is_refused}
+use Rattle.refusal.specs.Refusal.{Outcome, Answered, Refused, ◌then◌, refuse}
+use Rattle.refusal.specs.declared.Refusal.{Refusal}
 use Rattle.refusal.specs.declared.Concerns.TheVariants.{Neither}
 use Rattle.refusal.specs.declared.Reason.TheVariants.{Sheet, Limit}
-use Rattle.refusal.specs.Refusal.{Outcome}
-use Rattle.refusal.specs.Refusal.{Answered}
-use Rattle.refusal.proofs.Outcomes.{then_refused, then_both}
+use Rattle.refusal.proofs.Outcomes.{then_both}
 use Rattle.area.specs.Area.{most_parts}
 use Rattle.sheet.specs.Sheet.{used, parts_in}
 use Rattle.sheet.specs.Checks.{each, in_order, check_order, check_product}
@@ -33,18 +32,18 @@ module _ (c : ℕ → Outcome) where
   unfolding each
   each_none = refl
 
-  pub each_more : {n : ℕ} {o : Outcome} → each n c ≡ Answered → o ≡ c n → o ≡ Answered → each (n + 1) c ≡ Answered
+  pub each_more : {n : ℕ} → each n c ≡ Answered → c n ≡ Answered → each (n + 1) c ≡ Answered
   unfolding each
-  each_more {n} e q p = rw (add-one n) (simp (e, sym q ∙ p))
+  each_more {n} e q = rw (add-one n) (simp (e, q))
 
   -- the first that refuses decides
-  pub each_stop : (n i : ℕ) {o : Outcome} → i < n → each i c ≡ Answered → o ≡ c i → is_refused o ≡ true → o ≡ each n c
+  pub each_stop : (n i : ℕ) {r : Refusal} → i < n → each i c ≡ Answered → c i ≡ Refused r → Refused r ≡ each n c
   unfolding each
-  each_stop zero i l e q h = absurd (N.not-suc-le-zero l)
-  each_stop (suc n) i {o} l e q h =
+  each_stop zero i l e q = absurd (N.not-suc-le-zero l)
+  each_stop (suc n) i l e q =
       ⊎_elim
-      (λ (z : i ≡ n). rw (← z) (simp e q))
-      (λ (b : i < n). let w = each_stop n i b e q h in rw (← w) (sym (then_refused (c n) h)))
+      (λ (z : i ≡ n). rw (← z) (simp (e, q)))
+      (λ (b : i < n). rw (← each_stop n i b e q) refl)
       (N.eq-or-lt_of_le (omega arith))
 
   pub each_done : (n : ℕ) {i : ℕ} → n ≤ i → i ≤ n → each i c ≡ Answered → Answered ≡ each n c

@@ -32,7 +32,6 @@ use Rattle.algebra.proofs.Chains as C
 use Rattle.refusal.specs.Refusal.{refusal}
 use Rattle.refusal.specs.declared.Concerns.TheVariants.{Neither}
 use Rattle.refusal.specs.declared.Reason.TheVariants.{Limit}
-use Rattle.refusal.specs.Refusal.{Outcome}
 use Rattle.refusal.specs.Refusal.{Answered}
 use Rattle.polynomial.proofs.Filling.{zeros}
 use Rattle.composition.specs.Composition.{composition, Composable}
@@ -85,9 +84,9 @@ module _ (g : ℕ → List ℕ) where
         (N.eq-or-lt_of_le l)
 
     -- No. 10, at the first place where the product is above the limit
-    pub above-product : (i : ℕ) {n : ℕ} {o : Outcome} → i ≤ most_parts → n ≡ product_of i → limit < n → o ≡ refusal Neither Limit → o ≡ check_product g
+    pub above-product : (i : ℕ) {n : ℕ} → i ≤ most_parts → n ≡ product_of i → limit < n → refusal Neither Limit ≡ check_product g
     unfolding check_product
-    above-product i l e h q = simp (lt-ltb limit (product_of most_parts) (omega (arith, risen i most_parts l (omega arith)))) q
+    above-product i l e h = simp (lt-ltb limit (product_of most_parts) (omega (arith, risen i most_parts l (omega arith))))
 
   -- and if it is not at the end
   pub within-product : {i n : ℕ} → most_parts ≤ i → i ≤ most_parts → n ≡ product_of i → n ≤ limit → Answered ≡ check_product g

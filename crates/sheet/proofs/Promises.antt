@@ -6,9 +6,8 @@ use mathlib.Core.List.{List}
 use Prim.Native.Nat.{ℕ}
 use Rattle.refusal.specs.Refusal.{Outcome}
 use Rattle.refusal.proofs.Outcomes.{never}
-use Rattle.sheet.specs.Answers.{unread, ReadsSheet, WritesSheet}
+use Rattle.sheet.specs.Answers.{Contents, unread, ReadsSheet, WritesSheet}
 use Rattle.sheet.specs.Answers as of
-use Rattle.sheet.specs.Answers.{Contents}
 
 -- the answer and every byte of the sheet are determined
 pub write_determined : {w : ℕ} {xs b c d : List ℕ} {o p : Outcome} → WritesSheet w xs b c o → WritesSheet w xs b d p → (o ≡ p) × (c ≡ d)

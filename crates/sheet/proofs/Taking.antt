@@ -3,7 +3,6 @@
 --   held-long, area-long    how long they are
 --   cleared-filled          an area that is filled so far, cleared, is the area cleared
 --   place-taken             place i of a filled area is the polynomial of place i of the sheet
---   not_refused             an outcome that refuses is no answer
 --   placed_unused, placed_used     1 to 4 of a record, by the test of its words
 --   used-first              the first place is used
 --   accepted-used           what is accepted is used
@@ -13,7 +12,7 @@
 --   part-accepted, parts_parted     the parts of an area that passes 1 and 2 to 4
 --   rising_ext, parted_ext  what depends on the polynomials of the places only
 use mathlib.Core.Path.{◌≡◌, refl, sym, ap, ap₂, subst, ◌∙◌}
-use mathlib.Core.Bool.{Bool, true, false, not, ◌&&◌, false≢true}
+use mathlib.Core.Bool.{Bool, true, false, not, ◌&&◌}
 use mathlib.Core.List.{List, ◌∷◌, ◌++◌}
 use Prim.Native.Nat.{ℕ, ◌*◌, ◌≤◌, ◌<◌}
 use native.Mathlib.Omega.{arith}
@@ -22,11 +21,9 @@ use lib.Dec.{eqb}
 use lib.ListN.{length, drop, replicate}
 use Rattle.algebra.specs.Polynomial.{limit, terms, degree}
 use Rattle.algebra.specs.Chain.{Part}
-use Rattle.refusal.specs.Refusal.{◌then◌, refuse, is_refused}
+use Rattle.refusal.specs.Refusal.{Outcome, Answered, ◌then◌, refuse}
 use Rattle.refusal.specs.declared.Concerns.TheVariants.{Neither, Place}
 use Rattle.refusal.specs.declared.Reason.TheVariants.{Sheet}
-use Rattle.refusal.specs.Refusal.{Outcome}
-use Rattle.refusal.specs.Refusal.{Answered}
 use Rattle.refusal.proofs.Outcomes.{then_both, refuse-answered}
 use Rattle.polynomial.specs.Moduli.{modulus, check_modulus}
 use Rattle.polynomial.specs.Checks.{check_polynomial, Accepted}
@@ -71,10 +68,6 @@ accepted-part a = record { reduced = a.reduced; monic = a.monic; two = a.two }
 -- what is accepted is used
 accepted-used : {m : ℕ} {p : List ℕ} → Accepted m p → used p ≡ true
 accepted-used a = ap not (part_fills (accepted-above a) (accepted-part a)).some
-
--- an outcome that refuses is no answer
-pub not_refused : {o : Outcome} → o ≡ Answered → is_refused o ≡ true → ⊥
-not_refused e h = false≢true (sym (ap is_refused e) ∙ h)
 
 -- 1 to 4 of a record, by its words
 module _ (r : List ℕ) (i : ℕ) (long : length r ≡ record_bytes) {w : ℕ} {f : List ℕ} (w-is : w ≡ word r 0) (f_is : f ≡ coefficients r) {t : Bool} (t_is : t ≡ all_zero (w ∷ f)) where

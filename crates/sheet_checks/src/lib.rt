@@ -1,5 +1,5 @@
 // Chain sheets: the refusals that the writer and the reader share, by the places of an area.
-#![tactic(auto)]
+#![tactic(auto, unfolding(sheet::specs::Sheet::sheet_bytes, record::specs::Record::record_bytes, area::specs::Area::area_words, area::specs::Area::most_parts, algebra::specs::Polynomial::limit, algebra::specs::Polynomial::terms))]
 
 ghost use Rattle.std.specs.Prelude.{◌≡◌, ◌+◌, ◌*◌, ◌≤◌, ◌<◌, length};
 ghost use Rattle.algebra.specs.Polynomial.{limit};
@@ -10,19 +10,17 @@ ghost use Rattle.sheet.specs.Checks.{check_room as check_room_of, in_order as in
 ghost use Rattle.sheet.specs.Steps.{Rising};
 
 use polynomial::LIMIT;
-use refusal::{Concerns, Outcome, Reason};
+use refusal::{Reason, Refusal};
 
 // No. 11.
-pub fn check_room(bytes: usize, words: usize) -> Outcome
+#[tactic(auto, unfolding(sheet::specs::Checks::check_room, sheet::specs::Sheet::sheet_bytes, record::specs::Record::record_bytes, area::specs::Area::area_words, area::specs::Area::most_parts, algebra::specs::Polynomial::limit, algebra::specs::Polynomial::terms))]
+pub fn check_room(bytes: usize, words: usize) -> Result<(), Refusal>
     ensures { result ≡ check_room_of bytes words }
 {
-    if bytes < sheet::BYTES {
-        return refusal::refused(Concerns::Neither, Reason::Area);
+    if bytes < sheet::BYTES || words < area::WORDS {
+        return Err(Reason::Area.into());
     }
-    if words < area::WORDS {
-        return refusal::refused(Concerns::Neither, Reason::Area);
-    }
-    Outcome::Answered
+    Ok(())
 }
 
 // Whether place i of an area is used: then its part is handed out.
@@ -46,16 +44,16 @@ fn in_order(area: &[u32], i: usize) -> bool
 }
 
 // No. 12: the used places of an area are the first ones, and there is one.
-pub fn check_order(area: &[u32]) -> Outcome
+pub fn check_order(area: &[u32]) -> Result<(), Refusal>
     requires { area_words ≤ length area.now }
     ensures { result ≡ check_order_of (λ i. used_of (place area.now i)) }
 {
     for i in 0..area::PARTS {
         if !in_order(area, i) {
-            return refusal::refused(Concerns::Neither, Reason::Sheet);
+            return Err(Reason::Sheet.into());
         }
     }
-    Outcome::Answered
+    Ok(())
 }
 
 // What place i does to the product of the degrees.
@@ -71,7 +69,7 @@ fn factor(area: &[u32], i: usize) -> usize
 }
 
 // No. 10: the degrees multiply to more than the limit. The product stops there, so that it fits a word.
-pub fn check_product(area: &[u32]) -> Outcome
+pub fn check_product(area: &[u32]) -> Result<(), Refusal>
     requires { (area_words ≤ length area.now) × Rising (place area.now) }
     ensures { result ≡ check_product_of (place area.now) }
 {
@@ -79,8 +77,8 @@ pub fn check_product(area: &[u32]) -> Outcome
     for i in 0..area::PARTS {
         n = factor(area, i) * n;
         if LIMIT < n {
-            return refusal::refused(Concerns::Neither, Reason::Limit);
+            return Err(Reason::Limit.into());
         }
     }
-    Outcome::Answered
+    Ok(())
 }

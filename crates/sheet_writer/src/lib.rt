@@ -1,5 +1,5 @@
 // Chain sheets: the writer.
-#![tactic(auto)]
+#![tactic(auto, unfolding(sheet::specs::Sheet::sheet_bytes, record::specs::Record::record_bytes, area::specs::Area::area_words, area::specs::Area::most_parts, algebra::specs::Polynomial::limit, algebra::specs::Polynomial::terms))]
 
 ghost use Rattle.std.specs.Prelude.{◌≡◌, ◌++◌, ◌+◌, ◌*◌, ◌≤◌, ◌<◌, length, drop, replicate};
 ghost use Rattle.algebra.specs.Polynomial.{terms};
@@ -11,52 +11,41 @@ ghost use Rattle.sheet.specs.Answers.{WritesSheet};
 ghost use Rattle.sheet.specs.Steps.{put_word as put_word_of, put_record};
 
 use polynomial::TERMS;
-use refusal::{Concerns, Outcome};
+use refusal::{Concerns, Refusal};
 
 // Nos. 2 to 4 of the part in place i, if it is used.
-fn check_part(m: u64, area: &[u32], i: usize) -> Outcome
+fn check_part(m: u64, area: &[u32], i: usize) -> Result<(), Refusal>
     requires { (i < most_parts) × (area_words ≤ length area.now) }
     ensures { result ≡ check_part_of m (place area.now i) i }
 {
     let p = area::part(area, i);
     if p.len() == 0 {
-        return Outcome::Answered;
+        return Ok(());
     }
     polynomial::check_polynomial(Concerns::Place(i as u8), m, p, polynomial::degree(p))
 }
 
 // Nos. 2 to 4 of every used part, left to right.
-fn check_parts(m: u64, area: &[u32]) -> Outcome
+fn check_parts(m: u64, area: &[u32]) -> Result<(), Refusal>
     requires { area_words ≤ length area.now }
     ensures { result ≡ check_parts_of m area.now }
 {
     for i in 0..area::PARTS {
-        let o = check_part(m, area, i);
-        if refusal::refuses(o) {
-            return o;
-        }
+        check_part(m, area, i)?;
     }
-    Outcome::Answered
+    Ok(())
 }
 
 // The writer's checks past No. 11, in their order.
-fn check_area(m: u32, area: &[u32]) -> Outcome
+#[tactic(auto, unfolding(sheet::specs::Checks::check_area))]
+fn check_area(m: u32, area: &[u32]) -> Result<(), Refusal>
     requires { area_words ≤ length area.now }
     ensures { result ≡ check_area_of m area.now }
 {
     let m = polynomial::modulus(m);
-    let one = polynomial::check_modulus(m);
-    if refusal::refuses(one) {
-        return one;
-    }
-    let order = sheet_checks::check_order(area);
-    if refusal::refuses(order) {
-        return order;
-    }
-    let parts = check_parts(m, area);
-    if refusal::refuses(parts) {
-        return parts;
-    }
+    polynomial::check_modulus(m)?;
+    sheet_checks::check_order(area)?;
+    check_parts(m, area)?;
     sheet_checks::check_product(area)
 }
 
@@ -113,17 +102,11 @@ pub fn put(m: u32, area: &[u32], sheet: &mut [u8])
 }
 
 // The operation: the sheet of a modulus word and the parts of an area.
-pub fn write(m: u32, area: &[u32], sheet: &mut [u8]) -> Outcome
+pub fn write(m: u32, area: &[u32], sheet: &mut [u8]) -> Result<(), Refusal>
     ensures { WritesSheet m area.now sheet.old sheet.new result }
 {
-    let room = sheet_checks::check_room(sheet.len(), area.len());
-    if refusal::refuses(room) {
-        return room;
-    }
-    let o = check_area(m, area);
-    if refusal::refuses(o) {
-        return o;
-    }
+    sheet_checks::check_room(sheet.len(), area.len())?;
+    check_area(m, area)?;
     put(m, area, sheet);
-    Outcome::Answered
+    Ok(())
 }

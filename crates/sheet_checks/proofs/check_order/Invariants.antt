@@ -1,17 +1,12 @@
 use mathlib.Core.Path.{◌≡◌}
 use mathlib.Core.Bool.{not}
-use Prim.Native.Nat.{◌-◌, ◌≤◌}
-use Rattle.refusal.specs.Refusal.{refuse}
+use Rattle.refusal.specs.Refusal.{Answered, refuse}
 use Rattle.refusal.specs.declared.Concerns.TheVariants.{Neither}
 use Rattle.refusal.specs.declared.Reason.TheVariants.{Sheet}
-use Rattle.refusal.specs.Refusal.{Answered}
-use Rattle.area.specs.Area.{place, most_parts}
+use Rattle.area.specs.Area.{place}
 use Rattle.sheet.specs.Sheet.{used}
 use Rattle.sheet.specs.Checks.{each, in_order}
 use Rattle.sheet_checks.proofs.check_order.Given as goal
 
 abbrev pub invariant-loop-i : goal.invariant-loop-i
-invariant-loop-i l = (l.i ≤ most_parts) × (each l.i (λ i. refuse (not (in_order (λ i. used (place l.area i)) i)) Neither Sheet) ≡ Answered)
-
-abbrev pub decreases-loop-i : goal.decreases-loop-i
-decreases-loop-i l = most_parts - l.i
+invariant-loop-i l = each l.i (λ i. refuse (not (in_order (λ i. used (place l.area i)) i)) Neither Sheet) ≡ Answered

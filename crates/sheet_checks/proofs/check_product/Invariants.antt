@@ -1,13 +1,10 @@
 use mathlib.Core.Path.{◌≡◌}
-use Prim.Native.Nat.{◌-◌, ◌≤◌}
+use Prim.Native.Nat.{◌≤◌}
 use Rattle.algebra.specs.Chain.{degrees, product}
-use Rattle.area.specs.Area.{place, most_parts}
+use Rattle.area.specs.Area.{place}
 use Rattle.algebra.specs.Polynomial.{limit}
 use Rattle.sheet.specs.Sheet.{parts_in}
 use Rattle.sheet_checks.proofs.check_product.Given as goal
 
 abbrev pub invariant-loop-i : goal.invariant-loop-i
-invariant-loop-i l = (l.i ≤ most_parts) × (l.n ≡ product (degrees (parts_in (place l.area) l.i))) × (l.n ≤ limit)
-
-abbrev pub decreases-loop-i : goal.decreases-loop-i
-decreases-loop-i l = most_parts - l.i
+invariant-loop-i l = (l.n ≡ product (degrees (parts_in (place l.area) l.i))) × (l.n ≤ limit)

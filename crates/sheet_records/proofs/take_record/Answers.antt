@@ -8,7 +8,6 @@ use Rattle.algebra.specs.Polynomial.{limit, terms}
 use Rattle.sheet.specs.Sheet.{sheet_bytes}
 use Rattle.sheet.proofs.Joining.{cut, piece_long, cut_long}
 use Rattle.sheet.proofs.Taking.{placed_unused, placed_used}
-use borrow.Author.Rules.{rules}
 use Rattle.sheet_records.proofs.take_record.Goals as goal
 
 pub coefficients-f-requires : goal.coefficients-f-requires
@@ -39,23 +38,3 @@ returns c =
       placed_used _ _ (piece_long record_bytes most_parts a.i a.sheet.now p.1 p.0) w f c.is_blank.ensures c.if-is_blank.false c.check_words.ensures,
       c.put.ensures ∙ ap (put_at a.area.now a.i) f,
     )
-
-pub overflow_mul-from : goal.overflow_mul-from
-unfolding sheet_bytes record_bytes area_words most_parts terms limit
-overflow_mul-from c = search rules
-
-pub overflow_add-end : goal.overflow_add-end
-unfolding sheet_bytes record_bytes area_words most_parts terms limit
-overflow_add-end c = search rules
-
-pub slice_bounds-r-end : goal.slice_bounds-r-end
-unfolding sheet_bytes record_bytes area_words most_parts terms limit
-slice_bounds-r-end c = search rules
-
-pub put-requires : goal.put-requires
-unfolding sheet_bytes record_bytes area_words most_parts terms limit
-put-requires c = search rules
-
-pub check_words-requires : goal.check_words-requires
-unfolding sheet_bytes record_bytes area_words most_parts terms limit
-check_words-requires c = search rules

@@ -1,32 +1,25 @@
-use mathlib.Core.Path.{sym, ◌∙◌}
+use mathlib.Core.Path.{◌≡◌, sym, ◌∙◌}
 use native.Mathlib.Omega.{arith}
-use Rattle.refusal.proofs.Outcomes.{answered}
-use Rattle.area.specs.Area.{most_parts, area_words}
-use Rattle.algebra.specs.Polynomial.{limit, terms}
-use Rattle.record.specs.Record.{record_bytes}
-use Rattle.sheet.specs.Sheet.{sheet_bytes}
+use borrow.Author.Rules.{rules}
+use Rattle.std.specs.Prelude.{Err}
+use Rattle.area.specs.Area.{most_parts}
 use Rattle.sheet.specs.Checks.{check_parts}
 use Rattle.sheet.proofs.Checking.{each_none, each_more, each_stop, each_done}
-use borrow.Author.Rules.{rules}
 use Rattle.sheet_writer.proofs.check_parts.Goals as goal
 
 pub loop-i-init : goal.loop-i-init
 loop-i-init c = each_none _
 
-pub returns-then-refuses : goal.returns-then-refuses
+pub returns-in_err-check_part : goal.returns-in_err-check_part
 unfolding most_parts check_parts
-returns-then-refuses c =
-    each_stop _ most_parts _ (omega arith) c.loop-i.invariant c.check_part-o.ensures (sym c.refuses.ensures ∙ c.if-refuses.true)
+returns-in_err-check_part c =
+    let e : c.from_residual.result ≡ Err c.in_err-check_part.field-0.0 = search rules in
+    rw e (each_stop _ most_parts _ (omega arith) c.loop-i.invariant (sym c.check_part.ensures ∙ c.in_err-check_part.was))
 
 pub loop-i-preserved : goal.loop-i-preserved
 unfolding most_parts
-loop-i-preserved c =
-    each_more _ c.loop-i.invariant c.check_part-o.ensures (answered (sym c.refuses.ensures ∙ c.if-refuses.false))
+loop-i-preserved c = each_more _ c.loop-i.invariant (sym c.check_part.ensures ∙ c.in_ok-check_part.was)
 
 pub returns : goal.returns
 unfolding most_parts check_parts
 returns c = each_done _ most_parts (omega arith) (omega arith) c.loop-i.invariant
-
-pub check_part-o-requires : goal.check_part-o-requires
-unfolding sheet_bytes record_bytes area_words most_parts terms limit
-check_part-o-requires c = search rules

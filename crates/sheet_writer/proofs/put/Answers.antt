@@ -6,7 +6,6 @@ use Rattle.sheet.specs.Sheet.{sheet_bytes, recorded, sheet_of}
 use Rattle.sheet.specs.Steps.{put_record}
 use Rattle.sheet.proofs.Joining.{joined-begun, joined_done, put_next}
 use Rattle.sheet.proofs.Words.{recorded-long}
-use borrow.Author.Rules.{rules}
 use Rattle.sheet_writer.proofs.put.Goals as goal
 
 pub loop-i-init : goal.loop-i-init
@@ -22,7 +21,3 @@ loop-i-preserved c =
 pub returns : goal.returns
 unfolding sheet_of sheet_bytes most_parts
 returns c = joined_done _ record_bytes _ most_parts (omega arith) (omega arith) c.loop-i.invariant
-
-pub put_place-requires : goal.put_place-requires
-unfolding sheet_bytes record_bytes area_words most_parts terms limit
-put_place-requires c = search rules

@@ -2,7 +2,6 @@ use native.Mathlib.Omega.{arith}
 use Rattle.algebra.specs.Polynomial.{limit, terms}
 use Rattle.record.specs.Record.{record_bytes}
 use Rattle.sheet.proofs.Words.{word_first, word_next, word_last}
-use borrow.Author.Rules.{rules}
 use Rattle.sheet_writer.proofs.put_part.Goals as goal
 
 pub loop-j-init : goal.loop-j-init
@@ -21,15 +20,3 @@ unfolding record_bytes terms limit
 returns c =
     let l = c.loop-j in
     word_last _ _ _ (omega arith) (omega arith) l.invariant
-
-pub put_word-requires : goal.put_word-requires
-unfolding record_bytes terms limit
-put_word-requires c = search rules
-
-pub bounds-p-j : goal.bounds-p-j
-unfolding record_bytes terms limit
-bounds-p-j c = search rules
-
-pub put_word-requires-in-loop-j : goal.put_word-requires-in-loop-j
-unfolding record_bytes terms limit
-put_word-requires-in-loop-j c = search rules

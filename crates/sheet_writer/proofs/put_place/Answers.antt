@@ -10,7 +10,6 @@ use Rattle.sheet.specs.Steps.{put_record}
 use Rattle.sheet.proofs.Joining.{piece_long, cut_long}
 use Rattle.sheet.proofs.Words.{recorded-none, recorded-some}
 use Rattle.sheet.proofs.Handing.{place-long, empty_unused, handed-used, handed-place}
-use borrow.Author.Rules.{rules}
 use Rattle.sheet_writer.proofs.put_place.Goals as goal
 
 pub returns-then-p-eq0 : goal.returns-then-p-eq0
@@ -39,19 +38,3 @@ returns c =
     rw (c.put_part.ensures, e)
     (ap (put_record a.sheet.now a.i) (ap (record_of a.m) (handed-place _ _ p.0 p.1 c.part-p.ensures c.if-p-eq0.false)
     ∙ recorded-some a.m (place a.area.now a.i) (handed-used _ _ p.0 p.1 c.part-p.ensures c.if-p-eq0.false)))
-
-pub overflow_mul-from : goal.overflow_mul-from
-unfolding sheet_bytes record_bytes area_words most_parts terms limit
-overflow_mul-from c = search rules
-
-pub overflow_add-end : goal.overflow_add-end
-unfolding sheet_bytes record_bytes area_words most_parts terms limit
-overflow_add-end c = search rules
-
-pub slice_bounds-blank-end : goal.slice_bounds-blank-end
-unfolding sheet_bytes record_bytes area_words most_parts terms limit
-slice_bounds-blank-end c = search rules
-
-pub slice_bounds-put_part-end : goal.slice_bounds-put_part-end
-unfolding sheet_bytes record_bytes area_words most_parts terms limit
-slice_bounds-put_part-end c = search rules

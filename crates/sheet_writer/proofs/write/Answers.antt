@@ -1,21 +1,27 @@
-use Rattle.refusal.proofs.Outcomes.{passed_on}
+use mathlib.Core.Path.{◌≡◌, sym, ◌∙◌}
+use borrow.Author.Rules.{rules}
+use Rattle.std.specs.Prelude.{Err}
 use Rattle.sheet.proofs.Answering.{room, write_short, write_refused, write_made}
 use Rattle.sheet_writer.proofs.write.Goals as goal
 
-pub returns-then-refuses : goal.returns-then-refuses
-returns-then-refuses c = write_short _ _ _ c.check_room-room.ensures c.refuses.ensures c.if-refuses.true
+-- No. 11
+pub returns-in_err-check_room : goal.returns-in_err-check_room
+returns-in_err-check_room c =
+    let e : c.from_residual.result ≡ Err c.in_err-check_room.field-0.0 = search rules in
+    rw e (write_short _ _ _ (sym c.check_room.ensures ∙ c.in_err-check_room.was))
 
-pub check_area-o-requires : goal.check_area-o-requires
-check_area-o-requires c = (room _ _ (passed_on c.check_room-room.ensures c.refuses.ensures c.if-refuses.false)).1
+pub check_area-requires : goal.check_area-requires
+check_area-requires c = (room _ _ (sym c.check_room.ensures ∙ c.in_ok-check_room.was)).1
 
-pub returns-then-refuses-2 : goal.returns-then-refuses-2
-returns-then-refuses-2 c =
-    write_refused _ _ _ c.check_room-room.ensures c.refuses.ensures c.if-refuses.false c.check_area-o.ensures c.refuses-2.ensures c.if-refuses-2.true
+-- any other refusal
+pub returns-in_err-check_area : goal.returns-in_err-check_area
+returns-in_err-check_area c =
+    let e : c.from_residual-in_err-check_area.result ≡ Err c.in_err-check_area.field-0.0 = search rules in
+    rw e (write_refused _ _ _ (sym c.check_room.ensures ∙ c.in_ok-check_room.was) (sym c.check_area.ensures ∙ c.in_err-check_area.was))
 
 pub put-requires : goal.put-requires
-put-requires c =
-    let (x, y) = room _ _ (passed_on c.check_room-room.ensures c.refuses.ensures c.if-refuses.false) in (y, x)
+put-requires c = let (x, y) = room _ _ (sym c.check_room.ensures ∙ c.in_ok-check_room.was) in (y, x)
 
 pub returns : goal.returns
 returns c =
-    write_made _ _ _ c.check_room-room.ensures c.refuses.ensures c.if-refuses.false c.check_area-o.ensures c.refuses-2.ensures c.if-refuses-2.false c.put.ensures
+    write_made _ _ _ (sym c.check_room.ensures ∙ c.in_ok-check_room.was) (sym c.check_area.ensures ∙ c.in_ok-check_area.was) c.put.ensures
