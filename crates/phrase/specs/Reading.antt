@@ -4,6 +4,7 @@
 --   Only j q b               where b does not go on what j reads, it is a fault
 --   Done k j m s at d n v    a tree of k was read from place `at` to n, and what follows does not go on as j; v holds its polynomial
 --   told e                   a fault, as the states tell it
+--   reason_of e              why a text with this fault is refused
 --   Fails k s at d e         the text from `at` on has the fault e
 --   Reads k j m s at d r     one or the other, which r is
 --   SignAt s k r             the sign at k, or none stands there
@@ -15,6 +16,8 @@ use Rattle.built.specs.Built.{BuiltAs, Joins}
 use Rattle.phrase.specs.declared.Fault.{Fault}
 use Rattle.phrase.specs.declared.Fault.TheVariants.{Spelling, Depth}
 use Rattle.phrase.specs.declared.Found.{Found}
+use Rattle.refusal.specs.declared.Reason.{Reason}
+use Rattle.refusal.specs.declared.Reason.TheVariants as reason
 use Rattle.text.specs.Grammar.{Sum, Product, Factor, Base, plain, most_deep, plus_byte, minus_byte, times_byte, power_byte, close_byte}
 use Rattle.text.specs.Meaning.{meaning, meaning_product, meaning_factor, meaning_base, Within, WithinProduct, WithinFactor, WithinBase}
 use Rattle.text.specs.States.{Before, none, Frame, frame, Fault as State-fault, spelling, deep, State, begin, expect, factor, stuck, step, run, at_product, at_sum, bad, verdict}
@@ -79,6 +82,11 @@ pub record Done (k j : Phrase) (m : ℕ) (s : List ℕ) (at d next : ℕ) (v : O
 abbrev pub told : Fault → State-fault
 told Spelling = spelling
 told Depth = deep
+
+-- why a text with this fault is refused
+abbrev pub reason_of : Fault → Reason
+reason_of Spelling = reason.Spelling
+reason_of Depth = reason.Depth
 
 abbrev pub Fails : Phrase → List ℕ → ℕ → ℕ → Fault → Type 0
 Fails k s at d e = (st : List Frame) (f : Frame) → length st ≡ d → verdict (run most_deep (start k st f) (drop at s)) ≡ bad (told e)

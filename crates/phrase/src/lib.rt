@@ -2,17 +2,31 @@
 #![tactic(auto)]
 
 ghost use Rattle.std.specs.Prelude.{◌≡◌, true, false, List, ℕ, ◌+◌, ◌<◌, Some, length, get_or};
+ghost use Rattle.refusal.specs.Refusal.{naming_none};
 ghost use Rattle.text.specs.Grammar.{most_deep, open_byte, minus_byte, x_byte};
-ghost use Rattle.phrase.specs.Reading.{Phrase, Done, Reads, SignAt, Adds};
+ghost use Rattle.phrase.specs.Reading.{Phrase, Done, reason_of, Reads, SignAt, Adds};
 
 use built::Built;
 use reciprocal::Divisor;
+use refusal::{Reason, Refusal};
 
 // The faults of a text.
 #[derive(Clone, Copy, PartialEq, Eq, Debug)]
 pub enum Fault {
     Spelling,
     Depth,
+}
+
+// Nos. 13 and 14.
+impl From<Fault> for Refusal {
+    ghost from_gives = { λ e x. x ≡ naming_none (reason_of e) };
+
+    fn from(fault: Fault) -> Refusal {
+        match fault {
+            Fault::Spelling => Reason::Spelling.into(),
+            Fault::Depth => Reason::Depth.into(),
+        }
+    }
 }
 
 // What a reader has found: the next place, and what was built, or none.

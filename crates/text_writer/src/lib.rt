@@ -1,18 +1,17 @@
 // Typed polynomials: the operation write.
 #![tactic(auto)]
 
-ghost use Rattle.std.specs.Prelude.{◌≡◌, [], ◌∷◌, ◌+◌, ◌*◌, ◌≤◌, length};
+ghost use Rattle.std.specs.Prelude.{[], ◌∷◌, ◌+◌, ◌*◌, ◌≤◌, length};
 ghost use Rattle.algebra.specs.Polynomial.{limit};
 ghost use Rattle.polynomial.specs.Moduli.{modulus};
 ghost use Rattle.polynomial.specs.Checks.{Measured};
 ghost use Rattle.digits.specs.Digits.{Put};
 ghost use Rattle.text.specs.Grammar.{x_byte, times_byte, power_byte};
-ghost use Rattle.text.specs.Answers.{WritesText};
+ghost use Rattle.text.specs.Answers.{WritesText, written_of};
 ghost use Rattle.text.specs.Writing.{term_text, lower_term, lower, text_of, most_term, most_text};
 
 use polynomial::{Coefficients, TERMS};
-use refusal::{Concerns, Outcome, Reason};
-use text::Written;
+use refusal::{Reason, Refusal};
 
 // The most bytes of a term: two numbers, and three bytes between them.
 const TERM: usize = digits::DIGITS + 3 + digits::DIGITS;
@@ -72,30 +71,17 @@ fn put_text(f: &[u32], n: usize, out: &mut [u8]) -> usize
     put_lowers(f, n, out, at)
 }
 
-// Nothing is written.
-fn unwritten(outcome: Outcome) -> Written
-    ensures { result ≡ record { outcome = outcome; length = 0 } }
-{
-    Written { outcome, length: 0 }
-}
-
-// f as text, into an area.
-pub fn write(m: u32, f: Coefficients, area: &mut [u8]) -> Written
-    ensures { WritesText (modulus m) f area.old area.new result }
+// f as text, into an area; answers its length. Nothing is written on refusal.
+pub fn write(m: u32, f: Coefficients, area: &mut [u8]) -> Result<usize, Refusal>
+    ensures { WritesText (modulus m) f area.old area.new (written_of result) }
 {
     let n = polynomial::degree(&f);
-    let o = polynomial::check_one(polynomial::modulus(m), &f, n);
-    if refusal::refuses(o) {
-        return unwritten(o);
-    }
+    polynomial::check_one(polynomial::modulus(m), &f, n)?;
     let mut text = [0; TEXT];
     let length = put_text(&f, n, &mut text);
     if area.len() < length {
-        return unwritten(refusal::refused(Concerns::Neither, Reason::Area));
+        return Err(Reason::Area.into());
     }
     area[..length].copy_from_slice(&text[..length]);
-    Written {
-        outcome: Outcome::Answered,
-        length,
-    }
+    Ok(length)
 }

@@ -1,26 +1,45 @@
-use mathlib.Core.Path.{ap, ◌∙◌}
+use mathlib.Core.Path.{◌≡◌, refl, sym, ◌∙◌}
 use native.Mathlib.Omega.{arith}
-use Rattle.polynomial.specs.Answers.{nothing}
-use Rattle.refusal.proofs.Outcomes.{refused_by, passed_on}
-use Rattle.text.specs.Answers.{modulus, unsized}
+use borrow.Author.Rules.{rules}
+use Rattle.std.specs.Prelude.{Err, Some, None}
+use Rattle.refusal.specs.Refusal.{naming_none}
+use Rattle.refusal.specs.declared.Reason.TheVariants.{Limit}
+use Rattle.phrase.specs.Reading.{reason_of}
 use Rattle.polynomial.proofs.Acceptance.{accepted-modulus}
-use Rattle.phrase.proofs.Readers.{reads_sound}
+use Rattle.text.specs.Answers.{modulus}
+use Rattle.text_reader.proofs.Judging as law
 use Rattle.text_reader.proofs.read.Goals as goal
 
-pub returns-then-refuses : goal.returns-then-refuses
-returns-then-refuses c = rw (← c.modulus-k.ensures) (let (e, p, o) = refused_by c.check_modulus-o.ensures c.refuses.ensures c.if-refuses.true in modulus p (c.nothing.ensures ∙ ap nothing o))
+pub returns-in_err-check_modulus : goal.returns-in_err-check_modulus
+returns-in_err-check_modulus c =
+    let e : c.from_residual.result ≡ Err c.in_err-check_modulus.field-0.0 = search rules in
+    rw (e, ← c.modulus-m.ensures) (modulus (sym c.check_modulus.ensures ∙ c.in_err-check_modulus.was) refl)
 
-pub returns-then-text-lt1 : goal.returns-then-text-lt1
-returns-then-text-lt1 c = rw (← c.modulus-k.ensures) (unsized (passed_on c.check_modulus-o.ensures c.refuses.ensures c.if-refuses.false) (λ z. omega (arith, z.some, c.if-text-lt1.true)) c.refused.ensures)
+pub new-requires : goal.new-requires
+new-requires c = accepted-modulus (sym c.check_modulus.ensures ∙ c.in_ok-check_modulus.was)
 
-pub returns-then-text-gt-BYTES : goal.returns-then-text-gt-BYTES
-returns-then-text-gt-BYTES c = rw (← c.modulus-k.ensures) (unsized (passed_on c.check_modulus-o.ensures c.refuses.ensures c.if-refuses.false) (λ z. omega (arith, z.few, c.if-text-gt-BYTES.true)) c.refused-then-text-gt-BYTES.ensures)
+pub returns-in_err-r : goal.returns-in_err-r
+returns-in_err-r c =
+    let e : c.from_residual-in_err-r.result ≡ Err (naming_none (reason_of c.in_err-r.field-0.0)) = search rules in
+    rw (e, ← c.modulus-m.ensures) (law.judge_fault (sym c.check_modulus.ensures ∙ c.in_ok-check_modulus.was) (record { some = grind arith; few = omega arith }) c.in_err-r.field-0.0 c.in_err-r.ensures refl)
 
-pub made_ready-requires : goal.made_ready-requires
-made_ready-requires c = accepted-modulus (passed_on c.check_modulus-o.ensures c.refuses.ensures c.if-refuses.false)
+pub returns-then-r-text : goal.returns-then-r-text
+returns-then-r-text c =
+    rw (c.into-then-r-text.ensures, ← c.modulus-m.ensures) (law.judge_rest (sym c.check_modulus.ensures ∙ c.in_ok-check_modulus.was) (record { some = grind arith; few = omega arith }) (rw c.new.ensures at c.in_ok-r.ensures) c.if-r-text.true refl)
 
-pub judged-requires : goal.judged-requires
-judged-requires c = reads_sound c.sum.ensures
+pub returns-in_err-v : goal.returns-in_err-v
+returns-in_err-v c =
+    let none : c.in_ok-r.r.built ≡ None = grind arith in
+    let e : c.from_residual-in_err-v.result ≡ Err (naming_none Limit) = search rules in
+    rw (e, ← c.modulus-m.ensures) (law.judge_high (sym c.check_modulus.ensures ∙ c.in_ok-check_modulus.was) (record { some = grind arith; few = omega arith }) (rw (none, c.new.ensures) at c.in_ok-r.ensures) (omega arith) refl)
+
+pub returns-in_err-check_polynomial : goal.returns-in_err-check_polynomial
+returns-in_err-check_polynomial c =
+    let some : c.in_ok-r.r.built ≡ Some c.in_ok-v.v = grind arith in
+    let e : c.from_residual-in_err-check_polynomial.result ≡ Err c.in_err-check_polynomial.field-0.0 = search rules in
+    rw (e, ← c.modulus-m.ensures) (law.judge_read (sym c.check_modulus.ensures ∙ c.in_ok-check_modulus.was) (record { some = grind arith; few = omega arith }) (rw (some, c.new.ensures) at c.in_ok-r.ensures) (omega arith) (sym c.check_polynomial.ensures ∙ c.in_err-check_polynomial.was) refl)
 
 pub returns : goal.returns
-returns c = rw (← c.modulus-k.ensures) (c.judged.ensures (passed_on c.check_modulus-o.ensures c.refuses.ensures c.if-refuses.false) (record { some = omega (arith, c.if-text-lt1.false); few = omega (arith, c.if-text-gt-BYTES.false) }) (rw c.made_ready.ensures.0 at c.sum.ensures))
+returns c =
+    let some : c.in_ok-r.r.built ≡ Some c.in_ok-v.v = grind arith in
+    rw (← c.modulus-m.ensures) (law.judge_read (sym c.check_modulus.ensures ∙ c.in_ok-check_modulus.was) (record { some = grind arith; few = omega arith }) (rw (some, c.new.ensures) at c.in_ok-r.ensures) (omega arith) (sym c.check_polynomial.ensures ∙ c.in_ok-check_polynomial.was) refl)

@@ -1,4 +1,4 @@
-use mathlib.Core.Path.{refl, sym, ap, ◌∙◌}
+use mathlib.Core.Path.{◌≡◌, refl, sym, ap, ◌∙◌}
 use mathlib.Core.List.{List, ◌++◌}
 use Prim.Native.Nat.{ℕ}
 use native.Mathlib.Nat.{zero-add}
@@ -7,9 +7,8 @@ use borrow.Author.Rules.{rules}
 use lib.ListN.{drop}
 use lib.Seq.{length-take-le}
 use Rattle.algebra.specs.Polynomial.{terms, limit}
-use Rattle.refusal.specs.Refusal.{Outcome}
+use Rattle.std.specs.Prelude.{Err}
 use Rattle.refusal.specs.Refusal.{Answered}
-use Rattle.refusal.proofs.Outcomes.{refused_by, passed_on}
 use Rattle.digits.specs.Digits.{most_digits}
 use Rattle.text.specs.Answers.{refused, wrote}
 use Rattle.text.proofs.Promises.{text-refused, text-short, text-fits}
@@ -17,15 +16,14 @@ use Rattle.text.specs.Writing.{most_term, most_text}
 use Rattle.text_writer.proofs.Putting as law
 use Rattle.text_writer.proofs.write.Goals as goal
 
-pub check_one-o-requires : goal.check_one-o-requires
+pub check_one-requires : goal.check_one-requires
 unfolding terms limit
-check_one-o-requires c = record { long = search rules; is = c.degree-n.ensures }
+check_one-requires c = record { long = search rules; is = c.degree-n.ensures }
 
-pub returns-then-refuses : goal.returns-then-refuses
-returns-then-refuses c =
-    rw (← c.modulus.ensures)
-    (let (e, p, o) = refused_by c.check_one-o.ensures c.refuses.ensures c.if-refuses.true in
-    refused (text-refused _ _ _ p) refl (c.unwritten.ensures ∙ ap (λ (x : Outcome). record { outcome = x; length = 0 }) o))
+pub returns-in_err-check_one : goal.returns-in_err-check_one
+returns-in_err-check_one c =
+    let e : c.from_residual.result ≡ Err c.in_err-check_one.field-0.0 = search rules in
+    rw (e, ← c.modulus.ensures) (refused (text-refused _ _ _ (sym c.check_one.ensures ∙ c.in_err-check_one.was)) refl refl)
 
 pub put_text-length-requires : goal.put_text-length-requires
 unfolding terms limit most_text most_term most_digits
@@ -33,9 +31,8 @@ put_text-length-requires c = (record { long = search rules; is = c.degree-n.ensu
 
 pub returns-then-area-length : goal.returns-then-area-length
 returns-then-area-length c =
-    rw (← c.modulus.ensures)
-    (refused (text-short _ _ _ (passed_on c.check_one-o.ensures c.refuses.ensures c.if-refuses.false) (omega (arith, c.if-area-length.true, c.put_text-length.ensures.end))) refl
-    (c.unwritten-then-area-length.ensures ∙ ap (λ (x : Outcome). record { outcome = x; length = 0 }) c.refused.ensures))
+    rw (c.into.ensures, ← c.modulus.ensures)
+    (refused (text-short _ _ _ (sym c.check_one.ensures ∙ c.in_ok-check_one.was) (omega (arith, c.put_text-length.ensures.end))) refl refl)
 
 pub slice_bounds-text-end : goal.slice_bounds-text-end
 unfolding terms limit most_text most_term most_digits
@@ -55,6 +52,6 @@ unfolding terms limit most_text most_term most_digits
 returns c =
     let p = c.put_text-length.ensures in
     rw (← c.modulus.ensures)
-    (wrote (text-fits _ _ _ (passed_on c.check_one-o.ensures c.refuses.ensures c.if-refuses.false) (omega (arith, p.end, c.if-area-length.false)))
+    (wrote (text-fits _ _ _ (sym c.check_one.ensures ∙ c.in_ok-check_one.was) (omega (arith, p.end, c.if-area-length.false)))
     (law.copied _ _ _ (omega (arith, p.end, p.within)) p (ap (λ (l : List ℕ). l ++ drop c.put_text-length.result c.args.area.now) c.copy_from_slice.ensures.after))
     (ap (λ (n : ℕ). record { outcome = Answered; length = n }) (p.end ∙ zero-add _)))
