@@ -32,7 +32,8 @@ impl Maker for Lister<'_> {
     }
 }
 
-// Turn by turn, to the end of the input or the last record that is read.
+// Turn by turn, to the end of the input or the last record that is read. The loop stands here and not in `reading`:
+// `ended_early` changes its test.
 fn run(rt: &HostRuntime, lister: &Lister, buf: &mut [u8], out: &mut [u8]) -> Result<(), Failed>
     requires { (length buf.old ≡ buffer_bytes) × (most_lines ≤ length out.old) }
     ensures { RunOf Lines result }

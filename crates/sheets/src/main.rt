@@ -62,7 +62,8 @@ impl Maker for Sheeter {
     }
 }
 
-// Turn by turn, to the end of the input or the last record that is read.
+// Turn by turn, to the end of the input or the last record that is read. The loop stands here and not in `reading`:
+// `list` has it too, whose edit `ended_early` changes its test.
 fn run(rt: &HostRuntime, buf: &mut [u8], out: &mut [u8]) -> Result<(), Failed>
     requires { (length buf.old ≡ sheets_buffer) × (most_sheets * sheet_bytes ≤ length out.old) }
     ensures { RunOf Makes result }
