@@ -2,21 +2,14 @@
 --
 --   told-found                   5, or the chain that stands in a cleared area
 --   chain_given                  what passes the checks is what the search is given
-use mathlib.Core.Path.{◌≡◌, refl, sym, ap, ◌∙◌}
-use mathlib.Core.Bool.{true, false}
+use mathlib.Core.Path.{◌≡◌, sym, ap, ◌∙◌}
 use mathlib.Core.List.{List, ◌++◌}
-use Prim.Native.Nat.{ℕ, ◌*◌, ◌≤◌, ◌<◌}
+use Prim.Native.Nat.{ℕ, ◌*◌, ◌≤◌}
 use lib.ListN.{length, drop}
 use Rattle.algebra.specs.Polynomial.{degree, terms}
-use Rattle.refusal.specs.Refusal.{refusal, is_refused}
-use Rattle.refusal.specs.declared.Concerns.TheVariants.{Neither}
-use Rattle.refusal.specs.declared.Reason.TheVariants.{Area}
-use Rattle.refusal.specs.Refusal.{Outcome}
 use Rattle.refusal.specs.Refusal.{Answered}
-use Rattle.refusal.proofs.Outcomes.{answered, a_refusal}
 use Rattle.polynomial.specs.Checks.{check_one}
 use Rattle.polynomial.proofs.Acceptance.{accepted-one, accepted_as}
-use Rattle.binomial.specs.Triangle.{rows, triangle}
 use Rattle.area.specs.Area.{area_words, cleared, laid}
 use Rattle.area.proofs.Laying.{written_is}
 use Rattle.chain.specs.Chaining.{Chained}

@@ -32,14 +32,7 @@ pub fn cost(n: usize) -> usize
 
 // The parts of f from the first place on: those of the left part first, then the right part in the next place. v is the inverse of
 // n, and that of the left degree n / s is s * v: one search for an inverse serves all rounds.
-fn parts(
-    f: Coefficients,
-    n: usize,
-    v: u32,
-    area: &mut [u32],
-    table: &Table,
-    m: Divisor,
-) -> Numbers
+fn parts(f: Coefficients, n: usize, v: u32, area: &mut [u32], table: &Table, m: Divisor) -> Numbers
     requires { ChainAsked m.number n f × (area_words ≤ length area.old) × (n * v % m.number ≡ 1) }
     ensures { ChainedIn m.number n f area.old area.new result.parts result.tries result.price }
 {

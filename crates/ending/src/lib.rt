@@ -19,5 +19,9 @@ pub fn rightmost(f: Coefficients, n: usize, s: usize, table: &Table, m: Divisor)
     let Ok(pair) = pair::split_at(f, n, n / s, s, table, m) else {
         return None;
     };
-    if round::splits(pair.right, s, table, m) { None } else { Some(pair) }
+    if round::splits(pair.right, s, table, m) {
+        None
+    } else {
+        Some(pair)
+    }
 }

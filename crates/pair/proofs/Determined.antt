@@ -11,7 +11,6 @@
 --   composed-is, composed-reduced, composed-same       what is answered for a pair within the limit; it is reduced, and is g(h)
 --   round_trip               composing a pair with h(0) = 0 and splitting it at r gives that pair back
 use mathlib.Core.Path.{◌≡◌, refl, sym, ap, ap₂, ◌∙◌}
-use mathlib.Core.Bool.{false}
 use mathlib.Core.List.{List}
 use Prim.Native.Nat.{ℕ, ◌*◌, ◌/◌, ◌≤◌, ◌<◌}
 use native.Mathlib.Nat as N

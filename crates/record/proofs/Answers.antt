@@ -10,7 +10,7 @@
 --   check_unique       two answers that satisfy the contract are equal
 --   first-bytes        the answer comes from the first record_bytes bytes
 use mathlib.Core.Path.{◌≡◌, refl, sym, ◌∙◌, ap}
-use mathlib.Core.Bool.{Bool, true, false}
+use mathlib.Core.Bool.{Bool, false}
 use mathlib.Core.List.{List}
 use Prim.Native.Nat.{ℕ, ◌+◌, ◌*◌, ◌≤◌, ◌<◌}
 use native.Mathlib.Decide.{dec_le}
@@ -26,7 +26,7 @@ use Rattle.refusal.specs.declared.Reason.TheVariants.{Short}
 use Rattle.refusal.specs.Refusal.{Outcome, Answered, Refused}
 use Rattle.refusal.specs.declared.Refusal.{Refusal}
 use Rattle.std.specs.Prelude.{Ok, Err}
-use Rattle.refusal.proofs.Outcomes.{answered, then_both, passed_on}
+use Rattle.refusal.proofs.Outcomes.{then_both, passed_on}
 use Rattle.polynomial.specs.Moduli.{modulus}
 use Rattle.polynomial.specs.Checks.{check_one}
 use Rattle.algebra.proofs.Numbers.{table-length, table_ext}

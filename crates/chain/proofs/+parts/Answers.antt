@@ -1,7 +1,6 @@
 use mathlib.Core.Path.{refl, sym}
 use native.Mathlib.Omega.{arith}
 use borrow.Author.Rules.{rules}
-use borrow.Author.Tests.{not-true, not-false}
 use Rattle.algebra.specs.Polynomial.{terms, limit}
 use Rattle.algebra.proofs.Reduction.{degree-monic}
 use Rattle.area.specs.Area.{most_parts, area_words}

@@ -1,4 +1,3 @@
-use Prim.Native.Nat.{◌+◌, ◌-◌, ◌/◌, ◌≤◌}
 use Rattle.chains.proofs.Counting.{Below}
 use Rattle.chains.proofs.+count.Given as goal
 

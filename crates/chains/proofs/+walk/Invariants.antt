@@ -1,5 +1,4 @@
 use mathlib.Core.Path.{◌≡◌}
-use Prim.Native.Nat.{◌+◌, ◌-◌, ◌/◌, ◌≤◌}
 use Rattle.chains.proofs.Walking.{Gone}
 use Rattle.chains.proofs.+walk.Given as goal
 

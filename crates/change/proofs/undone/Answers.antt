@@ -1,4 +1,3 @@
-use native.Mathlib.Omega.{arith}
 use Rattle.change.proofs.Answering.{undone-is}
 use Rattle.change.proofs.undone.Goals as goal
 

@@ -1,6 +1,5 @@
-use mathlib.Core.Path.{refl, ap, ◌∙◌}
+use mathlib.Core.Path.{refl}
 use native.Mathlib.Omega.{arith}
-use Rattle.polynomial.specs.Answers.{nothing}
 use Rattle.left.specs.Left.{none, found}
 use Rattle.left.proofs.Found.{asked_division, asked_long, digits-terms, digits-past, digits-none, digits-found}
 use Rattle.left.proofs.left_part.Goals as goal

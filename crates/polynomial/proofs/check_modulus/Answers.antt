@@ -1,4 +1,4 @@
-use mathlib.Core.Path.{sym, ◌∙◌}
+use mathlib.Core.Path.{sym}
 use native.Mathlib.Omega.{arith}
 use Rattle.polynomial.specs.Moduli.{machine_words, smallest, largest}
 use Rattle.polynomial.proofs.Moduli.{words-taken, within-taken, below-refused, above-refused}

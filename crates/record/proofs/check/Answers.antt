@@ -1,9 +1,9 @@
-use mathlib.Core.Path.{◌≡◌, sym, ◌∙◌}
+use mathlib.Core.Path.{◌≡◌}
 use native.Mathlib.Omega.{arith}
 use borrow.Author.Rules.{rules}
 use Rattle.std.specs.Prelude.{Err}
 use Rattle.algebra.specs.Polynomial.{terms, limit}
-use Rattle.record.specs.Record.{record_bytes, checked_of}
+use Rattle.record.specs.Record.{record_bytes}
 use Rattle.record.proofs.Answers.{short-checked, refused-checked, answered-checked}
 use Rattle.record.proofs.check.Goals as goal
 

@@ -1,4 +1,4 @@
-use mathlib.Core.Path.{sym, ◌∙◌}
+use mathlib.Core.Path.{sym}
 use native.Mathlib.Omega.{arith}
 use Rattle.algebra.specs.Polynomial.{terms, limit}
 use Rattle.right.specs.Rows.{words}

@@ -1,5 +1,4 @@
 use native.Mathlib.Omega.{arith}
-use borrow.Author.Rules.{rules}
 use Rattle.algebra.specs.Polynomial.{limit, terms}
 use Rattle.moving.proofs.Scaling.{changed-is}
 use Rattle.moving.proofs.Move.changed.Goals as goal

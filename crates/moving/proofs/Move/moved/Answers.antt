@@ -1,5 +1,4 @@
 use native.Mathlib.Omega.{arith}
-use borrow.Author.Rules.{rules}
 use Rattle.moving.proofs.Moving.{composable_line, moved-is}
 use Rattle.moving.proofs.Move.moved.Goals as goal
 
