@@ -5,15 +5,12 @@
 --   less_multiple      a multiple of m less, the remainder is the same
 --   carry_is           what v·m leaves of 2^64 is 2^64 modulo m
 --   once, twice        what is below 2m, or one m less, is the remainder
---   ready              every divisor is ready
 use mathlib.Core.Path.{◌≡◌, sym, ap, ◌∙◌}
 use Prim.Native.Nat.{ℕ, ◌+◌, ◌*◌, ◌-◌, ◌/◌, ◌%◌, ◌^◌, ◌≤◌, ◌<◌}
 use native.Mathlib.Nat as N
 use native.Mathlib.Omega.{arith}
 use Rattle.algebra.specs.Number.{Modulus}
 use Rattle.reciprocal.specs.Reciprocal.{Reciprocal, reciprocal}
-use Rattle.reciprocal.specs.Ready.{Ready}
-use Rattle.reciprocal.specs.declared.Divisor.{Divisor}
 use Rattle.algebra.proofs.Congruent.{Congruent, from_eq, wrapped, remainder, ◌then◌}
 
 -- x·v = q·D + e and v·m + w = D: x·D = q·m·D + (e·m + x·w)
@@ -69,6 +66,3 @@ once x e h = remainder h (record { same = e })
 
 pub twice : (x : ℕ) {m r : ℕ} → r % m ≡ x % m → r < 2 * m → m ≤ r → r - m ≡ x % m
 twice x e u h = remainder (omega arith) (wrapped (omega arith) then record { same = e })
-
-pub ready : (d : Divisor) → Ready d
-ready d = record { modulus = d.modulus; beside = d.beside }

@@ -1,2 +1,1 @@
 pub mod Reciprocal
-pub mod Ready
