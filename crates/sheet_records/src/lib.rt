@@ -26,6 +26,7 @@ fn check_words(m: u32, f: &[u32], i: usize) -> Result<(), Refusal>
 }
 
 // Whether the words of a record are all zero: then its place is not used.
+#[tactic(auto, unfolding(area::specs::Area::all_zero))]
 fn is_blank(m: u32, f: &[u32]) -> bool
     ensures { result ≡ all_zero (m ∷ f.now) }
 {

@@ -1,21 +1,13 @@
 use mathlib.Core.Path.{ap, ◌∙◌}
 use mathlib.Core.List.{List}
 use Prim.Native.Nat.{ℕ}
-use native.Mathlib.Omega.{arith}
 use Rattle.area.specs.Area.{put_at, most_parts, area_words}
 use Rattle.record.specs.Record.{word, coefficients, record_bytes}
 use Rattle.algebra.specs.Polynomial.{limit, terms}
 use Rattle.sheet.specs.Sheet.{sheet_bytes}
-use Rattle.sheet.proofs.Joining.{cut, piece_long, cut_long}
+use Rattle.sheet.proofs.Joining.{cut, piece_long}
 use Rattle.sheet.proofs.Taking.{placed_unused, placed_used}
 use Rattle.sheet_records.proofs.take_record.Goals as goal
-
-pub coefficients-f-requires : goal.coefficients-f-requires
-unfolding sheet_bytes record_bytes area_words most_parts terms limit
-coefficients-f-requires c =
-    let a = c.args in
-    let p = c.requires in
-    omega (arith, cut_long record_bytes most_parts a.i a.sheet.now p.1 p.0)
 
 pub returns-then-is_blank : goal.returns-then-is_blank
 unfolding sheet_bytes record_bytes area_words most_parts terms limit
