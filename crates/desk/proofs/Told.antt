@@ -22,7 +22,9 @@ use Rattle.chain.specs.declared.Numbers as chain
 use Rattle.chain.specs.Chaining.{chained_of, ChainOf}
 use Rattle.chains.specs.declared.Numbers as chains
 use Rattle.chains.specs.Choosing.{numbered_of, chosen_of, NumberOf, NthOf}
-use Rattle.sheet.specs.Answers.{ReadsSheet, WritesSheet}
+use Rattle.sheet.specs.declared.Sheet.{Sheet}
+use Rattle.sheet.specs.Answers.{unread, contents_of, ReadsSheet, WritesSheet}
+use Rattle.sheet.specs.Answers as sheet-zeros
 use Rattle.text.specs.Answers.{written_of, WritesText}
 use Rattle.desk.specs.declared.Refused as face
 use Rattle.desk.specs.Face.{told, told_by, CheckedAs, AnswersAs, PartsAs, MadeAs, QuickAs, ChainedAs, NumberedAs, ChosenAs, SheetAs, ReadAs, TextAs}
@@ -74,3 +76,9 @@ module _ {o : face.Refused} where
       → o ≡ told_by (result_err x) → TextAs m f xs ys o k
   text_told (Ok k) is w t = record { written = written_of (Ok k); is = is; refused = t; length_is = w }
   text_told (Err e) is w t = record { written = written_of (Err e); is = is; refused = t; length_is = w }
+
+  pub read_told : {b xs ys : List ℕ} (x : Result Sheet Refusal) {c : Sheet} → ReadsSheet b xs ys (contents_of x)
+      → ResultUnwrapsOrElse x (λ c. c ≡ sheet-zeros.zeros) c → o ≡ told_by (result_err x) → ReadAs b xs ys o c.modulus c.polynomial
+  unfolding unread
+  read_told (Ok c) is w t = record { contents = contents_of (Ok c); is = is; refused = t; modulus_is = ap (λ (c : Sheet). c.modulus) w; f_is = ap (λ (c : Sheet). c.polynomial) w }
+  read_told (Err e) is w t = record { contents = contents_of (Err e); is = is; refused = t; modulus_is = ap (λ (c : Sheet). c.modulus) w; f_is = ap (λ (c : Sheet). c.polynomial) w }

@@ -1,6 +1,5 @@
-use mathlib.Core.Path.{refl}
+use Rattle.desk.proofs.Told.{parts_told}
 use Rattle.desk.proofs.desk_change_pair.Goals as goal
 
--- the change that is made is (a, b)
 pub returns : goal.returns
-returns c = record { parts = c.change_pair-x.result; is = rw c.make.ensures at c.change_pair-x.ensures; refused = c.told.ensures; g_is = refl; h_is = refl }
+returns c = parts_told c.change_pair-x.result (rw c.make.ensures at c.change_pair-x.ensures) c.unwrap_or_default-c.ensures (rw c.err.ensures at c.told.ensures)

@@ -1,6 +1,7 @@
-use mathlib.Core.Path.{refl}
+use Rattle.algebra.specs.Polynomial.{limit, terms}
+use Rattle.desk.proofs.Told.{answer_told}
 use Rattle.desk.proofs.desk_change_polynomial.Goals as goal
 
--- the change that is made is (a, b)
 pub returns : goal.returns
-returns c = record { answer = c.change_polynomial-x.result; is = rw c.make.ensures at c.change_polynomial-x.ensures; refused = c.told.ensures; f_is = refl }
+unfolding terms limit
+returns c = answer_told c.change_polynomial-x.result (rw c.make.ensures at c.change_polynomial-x.ensures) c.unwrap_or-p.ensures (rw c.err.ensures at c.told.ensures)
