@@ -8,7 +8,7 @@
 --   AcceptedIn m f k xs ys r   the same for a record whose check accepts its words m and f
 --   most_records, most_lines   how many records are listed at a time, and the most bytes of their lines
 --   LinesIn b k xs ys r        the lines of b stand at the start of ys, which was xs, and r is their length
-use Rattle.std.specs.Prelude.{◌≡◌, List, [], ◌∷◌, ◌++◌, ℕ, ◌+◌, ◌*◌, ◌<◌, length, take, drop, replicate}
+use Rattle.std.specs.Prelude.{◌≡◌, List, [], ◌∷◌, ◌++◌, ℕ, ◌+◌, ◌*◌, ◌<◌, length, take, drop, replicate, Ok, Err}
 use Rattle.algebra.specs.Number.{table}
 use Rattle.algebra.specs.Polynomial.{degree}
 use Rattle.refusal.specs.Refusal.{number}
@@ -17,8 +17,7 @@ use Rattle.refusal.specs.Refusal.{Answered, Refused}
 use Rattle.digits.specs.Digits.{Put}
 use Rattle.polynomial.specs.Moduli.{modulus}
 use Rattle.area.specs.Area.{area_words, place}
-use Rattle.chain.specs.Chaining.{Chained}
-use Rattle.chain.specs.Chaining.{ChainOf}
+use Rattle.chain.specs.Chaining.{Chained, ChainOf}
 use Rattle.record.specs.Record.{word, record_bytes, coefficients, check_record}
 use Rattle.listing.specs.Text.{most_line, fields}
 
@@ -29,8 +28,8 @@ zero_area = replicate area_words 0
 -- of a refusal its number alone; of an answer 0, the degree, parts, tries, price, and the degrees of the parts in their places
 abbrev pub chain_numbers : ℕ → List ℕ → Chained → List ℕ
 chain_numbers n ys x = elim x.outcome [
-  | Answered ↦ 0 ∷ n ∷ x.parts ∷ x.tries ∷ x.price ∷ table x.parts (λ i. degree (place ys i))
-  | Refused r ↦ number r.reason ∷ []
+  | Ok _ ↦ 0 ∷ n ∷ x.parts ∷ x.tries ∷ x.price ∷ table x.parts (λ i. degree (place ys i))
+  | Err r ↦ number r.reason ∷ []
 ]
 
 -- a record that its check refuses gives the refusal's number; any other the numbers of its chain

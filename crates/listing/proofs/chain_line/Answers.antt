@@ -3,7 +3,7 @@ use Prim.Native.Nat.{ℕ, ◌+◌, ◌*◌}
 use native.Mathlib.Omega.{arith}
 use borrow.Author.Rules.{rules}
 use Rattle.algebra.specs.Number.{table}
-use Rattle.algebra.specs.Polynomial.{degree}
+use Rattle.algebra.specs.Polynomial.{degree, limit}
 use Rattle.digits.specs.Digits.{most_digits}
 use Rattle.digits.proofs.Text.{put-append, put-most, put_byte}
 use Rattle.area.specs.Area.{most_parts, place}
@@ -15,8 +15,8 @@ pub returns : goal.returns
 unfolding most_line before_degrees most_field most_digits most_parts
 returns c =
     let a = c.args in
-    let n = a.n in
-    rw (← line-fields a.number (0 ∷ n.degree ∷ n.parts ∷ n.tries ∷ n.price ∷ []) (table n.parts (λ (i : ℕ). degree (place a.area.now i))))
+    let n = a.chain in
+    rw (← line-fields a.number (0 ∷ a.degree ∷ n.parts ∷ n.tries ∷ n.price ∷ []) (table n.parts (λ (i : ℕ). degree (place a.area.now i))))
     (put-most {m = most_digits + most_field * 5 + (most_field * n.parts + 1)} (omega arith)
     (put-append (put-append c.digits-a.ensures c.spaced-b.ensures) (put-append c.degrees-end.ensures (put_byte _ _ _))))
 
@@ -25,8 +25,20 @@ unfolding most_line before_degrees most_field most_digits most_parts
 digits-a-requires c = search rules
 
 pub overflow_cast-numbers : goal.overflow_cast-numbers
-unfolding most_line before_degrees most_field most_digits most_parts
+unfolding most_parts limit
 overflow_cast-numbers c = search rules
+
+pub overflow_cast-numbers-2 : goal.overflow_cast-numbers-2
+unfolding most_parts limit
+overflow_cast-numbers-2 c = search rules
+
+pub overflow_cast-numbers-3 : goal.overflow_cast-numbers-3
+unfolding most_parts limit
+overflow_cast-numbers-3 c = search rules
+
+pub overflow_cast-numbers-4 : goal.overflow_cast-numbers-4
+unfolding most_parts limit
+overflow_cast-numbers-4 c = search rules
 
 pub spaced-b-requires : goal.spaced-b-requires
 unfolding most_line before_degrees most_field most_digits most_parts

@@ -47,7 +47,7 @@ pub line-w-requires : goal.line-w-requires
 unfolding most_lines most_line before_degrees most_field most_digits most_parts most_records record_bytes terms limit
 line-w-requires c =
     let (from, at, on, fits) = c.in-Some.ensures.steps in
-    (simp (length-take, length-drop) (omega (arith, c.loop-i.invariant.1.left from.1.2, c.loop-i.invariant.1.put.within, c.loop-i.auto.out)), c.requires.table)
+    simp (length-take, length-drop) (omega (arith, c.loop-i.invariant.1.left from.1.2, c.loop-i.invariant.1.put.within, c.loop-i.auto.out))
 
 pub overflow_add-w : goal.overflow_add-w
 unfolding most_lines most_line before_degrees most_field most_digits most_parts most_records record_bytes terms limit
