@@ -21,25 +21,35 @@ new-requires c = accepted-modulus (sym c.check_modulus.ensures ∙ c.in_ok-check
 pub returns-in_err-r : goal.returns-in_err-r
 returns-in_err-r c =
     let e : c.from_residual-in_err-r.result ≡ Err (naming_none (reason_of c.in_err-r.field-0.0)) = search rules in
-    rw (e, ← c.modulus-m.ensures) (law.judge_fault (sym c.check_modulus.ensures ∙ c.in_ok-check_modulus.was) (record { some = grind arith; few = omega arith }) c.in_err-r.field-0.0 c.in_err-r.ensures refl)
+    rw (e, ← c.modulus-m.ensures)
+    (law.judge_fault (sym c.check_modulus.ensures ∙ c.in_ok-check_modulus.was) (record { some = grind arith; few = omega arith })
+    c.in_err-r.field-0.0 c.in_err-r.ensures refl)
 
 pub returns-then-r-text : goal.returns-then-r-text
 returns-then-r-text c =
-    rw (c.into-then-r-text.ensures, ← c.modulus-m.ensures) (law.judge_rest (sym c.check_modulus.ensures ∙ c.in_ok-check_modulus.was) (record { some = grind arith; few = omega arith }) (rw c.new.ensures at c.in_ok-r.ensures) c.if-r-text.true refl)
+    rw (c.into-then-r-text.ensures, ← c.modulus-m.ensures)
+    (law.judge_rest (sym c.check_modulus.ensures ∙ c.in_ok-check_modulus.was) (record { some = grind arith; few = omega arith })
+    (rw c.new.ensures at c.in_ok-r.ensures) c.if-r-text.true refl)
 
 pub returns-in_err-v : goal.returns-in_err-v
 returns-in_err-v c =
     let none : c.in_ok-r.r.built ≡ None = grind arith in
     let e : c.from_residual-in_err-v.result ≡ Err (naming_none Limit) = search rules in
-    rw (e, ← c.modulus-m.ensures) (law.judge_high (sym c.check_modulus.ensures ∙ c.in_ok-check_modulus.was) (record { some = grind arith; few = omega arith }) (rw (none, c.new.ensures) at c.in_ok-r.ensures) (omega arith) refl)
+    rw (e, ← c.modulus-m.ensures)
+    (law.judge_high (sym c.check_modulus.ensures ∙ c.in_ok-check_modulus.was) (record { some = grind arith; few = omega arith })
+    (rw (none, c.new.ensures) at c.in_ok-r.ensures) (omega arith) refl)
 
 pub returns-in_err-check_polynomial : goal.returns-in_err-check_polynomial
 returns-in_err-check_polynomial c =
     let some : c.in_ok-r.r.built ≡ Some c.in_ok-v.v = grind arith in
     let e : c.from_residual-in_err-check_polynomial.result ≡ Err c.in_err-check_polynomial.field-0.0 = search rules in
-    rw (e, ← c.modulus-m.ensures) (law.judge_read (sym c.check_modulus.ensures ∙ c.in_ok-check_modulus.was) (record { some = grind arith; few = omega arith }) (rw (some, c.new.ensures) at c.in_ok-r.ensures) (omega arith) (sym c.check_polynomial.ensures ∙ c.in_err-check_polynomial.was) refl)
+    rw (e, ← c.modulus-m.ensures)
+    (law.judge_read (sym c.check_modulus.ensures ∙ c.in_ok-check_modulus.was) (record { some = grind arith; few = omega arith })
+    (rw (some, c.new.ensures) at c.in_ok-r.ensures) (omega arith) (sym c.check_polynomial.ensures ∙ c.in_err-check_polynomial.was) refl)
 
 pub returns : goal.returns
 returns c =
     let some : c.in_ok-r.r.built ≡ Some c.in_ok-v.v = grind arith in
-    rw (← c.modulus-m.ensures) (law.judge_read (sym c.check_modulus.ensures ∙ c.in_ok-check_modulus.was) (record { some = grind arith; few = omega arith }) (rw (some, c.new.ensures) at c.in_ok-r.ensures) (omega arith) (sym c.check_polynomial.ensures ∙ c.in_ok-check_polynomial.was) refl)
+    rw (← c.modulus-m.ensures)
+    (law.judge_read (sym c.check_modulus.ensures ∙ c.in_ok-check_modulus.was) (record { some = grind arith; few = omega arith })
+    (rw (some, c.new.ensures) at c.in_ok-r.ensures) (omega arith) (sym c.check_polynomial.ensures ∙ c.in_ok-check_polynomial.was) refl)
