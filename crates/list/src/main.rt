@@ -15,7 +15,7 @@ const BUFFER: usize = listing::RECORDS * record::BYTES;
 // Makes lines of records, by the table of binomials.
 #[derive(Drop)]
 struct Lister<'a> {
-    binomials: &'a Table,
+    table: &'a Table,
 }
 
 impl Maker for Lister<'_> {
@@ -28,7 +28,7 @@ impl Maker for Lister<'_> {
     const NAME: &'static [u8] = b"list";
 
     fn make(&self, taken: usize, listed: &[u8], out: &mut [u8]) -> usize {
-        listing::lines(listed, reading::number(taken), self.binomials, out)
+        listing::lines(listed, reading::number(taken), self.table, out)
     }
 }
 
@@ -50,9 +50,9 @@ fn run(rt: &HostRuntime, lister: &Lister, buf: &mut [u8], out: &mut [u8]) -> Res
 }
 
 fn main(rt: HostRuntime) {
-    let binomials = Table::new();
+    let table = Table::new();
     let lister = Lister {
-        binomials: &binomials,
+        table: &table,
     };
     let mut buf = [0u8; BUFFER];
     let mut out = [0u8; listing::LINES];

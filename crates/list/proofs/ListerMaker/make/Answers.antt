@@ -7,9 +7,9 @@ use Rattle.list.specs.Buffer.{buffer_bytes}
 use Rattle.list.proofs.Pieces.{lines-put}
 use Rattle.list.proofs.ListerMaker.make.Goals as goal
 
-pub lines-requires-clause-fits : goal.lines-requires-clause-fits
+pub lines-requires : goal.lines-requires
 unfolding number_after most_read most_listed buffer_bytes most_records record_bytes terms limit
-lines-requires-clause-fits c = omega arith
+lines-requires c = omega arith
 
 pub returns : goal.returns
 returns c =
