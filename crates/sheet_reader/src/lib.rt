@@ -1,51 +1,33 @@
 // Chain sheets: the reader, which composes the parts.
-#![tactic(auto)]
+#![tactic(auto, unfolding(sheet::specs::Sheet::sheet_bytes, record::specs::Record::record_bytes, area::specs::Area::area_words, area::specs::Area::most_parts, algebra::specs::Polynomial::limit, algebra::specs::Polynomial::terms))]
 
 ghost use Rattle.std.specs.Prelude.{◌≡◌, ◌∷◌, ◌+◌, ◌-◌, ◌≤◌, ◌<◌, length, replicate};
 ghost use Rattle.algebra.specs.Polynomial.{limit, reduced};
 ghost use Rattle.algebra.specs.Chain.{composed};
 ghost use Rattle.refusal.specs.Refusal.{◌then◌};
-ghost use Rattle.reciprocal.specs.Ready.{Ready};
-ghost use Rattle.area.specs.Area.{most_parts, area_words, place, cleared};
+ghost use Rattle.area.specs.Area.{most_parts, area_words, place};
 ghost use Rattle.sheet.specs.Sheet.{sheet_bytes, record_at, used as used_of, parts_in};
 ghost use Rattle.sheet.specs.Checks.{check_order as check_order_of, check_moduli as check_moduli_of, check_product as check_product_of};
-ghost use Rattle.sheet.specs.Answers.{unread as unread_of, ReadsSheet};
-ghost use Rattle.sheet.specs.Steps.{Used, Rising, Composes, ComposedTo};
+ghost use Rattle.sheet.specs.Answers.{contents_of, ReadsSheet};
+ghost use Rattle.sheet.specs.Steps.{TakesSheet, Used, Rising, Composes, ComposedTo};
 
 use polynomial::{Coefficients, TERMS};
 use reciprocal::Divisor;
-use refusal::Outcome;
-use sheet::Contents;
-
-// Zeros beside an outcome.
-fn unread(outcome: Outcome) -> Contents
-    ensures { result ≡ unread_of outcome }
-{
-    Contents {
-        outcome,
-        modulus: 0,
-        polynomial: [0; TERMS],
-    }
-}
+use refusal::Refusal;
+use sheet::Sheet;
 
 // The reader's checks past 1 to 4, of a sheet whose polynomials stand in the area.
-fn check_taken(sheet: &[u8], area: &[u32]) -> Outcome
+fn check_taken(sheet: &[u8], area: &[u32]) -> Result<(), Refusal>
     requires { (sheet_bytes ≤ length sheet.now) × (area_words ≤ length area.now) × Used sheet.now area.now × Rising (place area.now) }
     ensures { result ≡ (check_order_of (λ i. used_of (record_at sheet.now i)) then check_moduli_of sheet.now then check_product_of (place area.now)) }
 {
-    let order = sheet_checks::check_order(area);
-    if refusal::refuses(order) {
-        return order;
-    }
-    let moduli = sheet_records::check_moduli(sheet, area);
-    if refusal::refuses(moduli) {
-        return moduli;
-    }
+    sheet_checks::check_order(area)?;
+    sheet_records::check_moduli(sheet, area)?;
     sheet_checks::check_product(area)
 }
 
 // What the first places compose to, and its degree.
-#[derive(Drop)]
+#[derive(Clone, Copy)]
 struct Composed {
     polynomial: Coefficients,
     degree: usize,
@@ -53,7 +35,7 @@ struct Composed {
 
 // One place more.
 fn composed_with(area: &[u32], i: usize, g: Composed, m: Divisor) -> Composed
-    requires ready { Ready m × (i < most_parts) × (area_words ≤ length area.now) × Composes m.number (place area.now) }
+    requires ready { (i < most_parts) × (area_words ≤ length area.now) × Composes m.number (place area.now) }
     requires composed_to { ComposedTo m.number (place area.now) i g.polynomial g.degree }
     ensures { ComposedTo m.number (place area.now) (i + 1) result.polynomial result.degree }
 {
@@ -62,12 +44,9 @@ fn composed_with(area: &[u32], i: usize, g: Composed, m: Divisor) -> Composed
         return g;
     }
     let s = polynomial::degree(h);
-    let left = g.polynomial;
-    let r = g.degree;
-    let polynomial = composition::compose(&left, h, r, s, m);
     Composed {
-        polynomial,
-        degree: r * s,
+        polynomial: composition::compose(&g.polynomial, h, g.degree, s, m),
+        degree: g.degree * s,
     }
 }
 
@@ -82,7 +61,7 @@ fn identity() -> Coefficients
 
 // What the parts of an area compose to.
 fn compose(area: &[u32], m: Divisor) -> Coefficients
-    requires { Ready m × (area_words ≤ length area.now) × Composes m.number (place area.now) }
+    requires { (area_words ≤ length area.now) × Composes m.number (place area.now) }
     ensures { result ≡ reduced m.number (composed (parts_in (place area.now) most_parts)) }
 {
     let mut g = Composed {
@@ -95,36 +74,30 @@ fn compose(area: &[u32], m: Divisor) -> Coefficients
     g.polynomial
 }
 
-// A refusal: the places are zeroed.
-fn refuse(outcome: Outcome, area: &mut [u32]) -> Contents
-    requires { area_words ≤ length area.old }
-    ensures { (result ≡ unread_of outcome) × (area.new ≡ cleared area.old) }
+// The parts of a sheet in an area that has room, and what they compose to. After a refusal some places are filled.
+fn take(sheet: &[u8], area: &mut [u32]) -> Result<Sheet, Refusal>
+    requires { (sheet_bytes ≤ length sheet.now) × (area_words ≤ length area.old) }
+    ensures { TakesSheet sheet.now area.old area.new result }
 {
-    area::clear(area);
-    unread(outcome)
-}
-
-// The operation: the modulus word of a sheet, its parts in an area, and what they compose to.
-pub fn read(sheet: &[u8], area: &mut [u32]) -> Contents
-    ensures { ReadsSheet sheet.now area.old area.new result }
-{
-    let room = sheet_checks::check_room(sheet.len(), area.len());
-    if refusal::refuses(room) {
-        return unread(room);
-    }
-    let records = sheet_records::take_records(sheet, area);
-    if refusal::refuses(records) {
-        return refuse(records, area);
-    }
-    let o = check_taken(sheet, area);
-    if refusal::refuses(o) {
-        return refuse(o, area);
-    }
+    sheet_records::take_records(sheet, area)?;
+    check_taken(sheet, area)?;
     let modulus = record::word(sheet, 0);
-    let polynomial = compose(area, reciprocal::made_ready(polynomial::modulus(modulus)));
-    Contents {
-        outcome: Outcome::Answered,
+    let polynomial = compose(area, Divisor::new(polynomial::modulus(modulus)));
+    Ok(Sheet {
         modulus,
         polynomial,
+    })
+}
+
+// The operation: the modulus word of a sheet, its parts in an area, and what they compose to. After a refusal past No. 11 the places
+// are zeroed.
+pub fn read(sheet: &[u8], area: &mut [u32]) -> Result<Sheet, Refusal>
+    ensures { ReadsSheet sheet.now area.old area.new (contents_of result) }
+{
+    sheet_checks::check_room(sheet.len(), area.len())?;
+    let taken = take(sheet, area);
+    if taken.is_err() {
+        area::clear(area);
     }
+    taken
 }

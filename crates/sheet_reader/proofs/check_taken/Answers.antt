@@ -1,15 +1,19 @@
-use mathlib.Core.Path.{◌∙◌}
-use Rattle.refusal.proofs.Outcomes.{stopped, went_on}
+use mathlib.Core.Path.{◌≡◌, sym, ◌∙◌}
+use borrow.Author.Rules.{rules}
+use Rattle.std.specs.Prelude.{Err}
 use Rattle.sheet.proofs.Checking.{order_ext}
 use Rattle.sheet_reader.proofs.check_taken.Goals as goal
 
-pub returns-then-refuses : goal.returns-then-refuses
-returns-then-refuses c = stopped (c.check_order-order.ensures ∙ order_ext _ _ c.requires.2.is) c.refuses.ensures _ c.if-refuses.true
+pub returns-in_err-check_order : goal.returns-in_err-check_order
+returns-in_err-check_order c =
+    let e : c.from_residual.result ≡ Err c.in_err-check_order.field-0.0 = search rules in
+    rw (e, ← order_ext _ _ c.requires.2.is) (simp (sym c.check_order.ensures ∙ c.in_err-check_order.was))
 
-pub returns-then-refuses-2 : goal.returns-then-refuses-2
-returns-then-refuses-2 c =
-    went_on (c.check_order-order.ensures ∙ order_ext _ _ c.requires.2.is) c.refuses.ensures c.if-refuses.false (stopped c.check_moduli-moduli.ensures c.refuses-2.ensures _ c.if-refuses-2.true)
+pub returns-in_err-check_moduli : goal.returns-in_err-check_moduli
+returns-in_err-check_moduli c =
+    let e : c.from_residual-in_err-check_moduli.result ≡ Err c.in_err-check_moduli.field-0.0 = search rules in
+    rw (e, ← order_ext _ _ c.requires.2.is) (simp (sym c.check_order.ensures ∙ c.in_ok-check_order.was, sym c.check_moduli.ensures ∙ c.in_err-check_moduli.was))
 
 pub returns : goal.returns
 returns c =
-    went_on (c.check_order-order.ensures ∙ order_ext _ _ c.requires.2.is) c.refuses.ensures c.if-refuses.false (went_on c.check_moduli-moduli.ensures c.refuses-2.ensures c.if-refuses-2.false c.check_product.ensures)
+    rw (← order_ext _ _ c.requires.2.is) (simp (sym c.check_order.ensures ∙ c.in_ok-check_order.was, sym c.check_moduli.ensures ∙ c.in_ok-check_moduli.was) c.check_product.ensures)

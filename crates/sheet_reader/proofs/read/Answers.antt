@@ -1,57 +1,30 @@
+use mathlib.Core.Path.{◌≡◌, sym, ◌∙◌}
 use native.Mathlib.Omega.{arith}
-use Rattle.refusal.proofs.Outcomes.{passed_on}
-use Rattle.polynomial.proofs.Acceptance.{accepted-modulus}
+use borrow.Author.Rules.{rules}
+use Rattle.std.specs.Prelude.{Err}
 use Rattle.algebra.specs.Polynomial.{limit, terms}
-use Rattle.area.specs.Area.{most_parts}
-use Rattle.record.specs.Record.{record_bytes}
-use Rattle.sheet.specs.Sheet.{sheet_bytes}
-use Rattle.sheet.proofs.Answering.{room, read_short, read-refused, taken-used, taken_rising, read_rejected, taken-composes, read_taken}
+use Rattle.area.specs.Area.{most_parts, area_words}
+use Rattle.sheet.proofs.Answering.{room, read_short, read_refused, read_taken}
 use Rattle.sheet_reader.proofs.read.Goals as goal
 
-pub returns-then-refuses : goal.returns-then-refuses
-returns-then-refuses c = read_short _ _ c.check_room-room.ensures c.refuses.ensures c.if-refuses.true c.unread.ensures
+-- No. 11
+pub returns-in_err-check_room : goal.returns-in_err-check_room
+returns-in_err-check_room c =
+    let e : c.from_residual.result ≡ Err c.in_err-check_room.field-0.0 = search rules in
+    rw e (read_short _ _ (sym c.check_room.ensures ∙ c.in_err-check_room.was))
 
-pub take_records-records-requires : goal.take_records-records-requires
-take_records-records-requires c = room _ _ (passed_on c.check_room-room.ensures c.refuses.ensures c.if-refuses.false)
+pub take-taken-requires : goal.take-taken-requires
+take-taken-requires c = room _ _ (sym c.check_room.ensures ∙ c.in_ok-check_room.was)
 
-pub refuse-requires : goal.refuse-requires
-refuse-requires c =
-    let (x, y) = room _ _ (passed_on c.check_room-room.ensures c.refuses.ensures c.if-refuses.false) in omega (arith, y)
+pub clear-requires : goal.clear-requires
+unfolding area_words most_parts terms limit
+clear-requires c = let (x, y) = room _ _ (sym c.check_room.ensures ∙ c.in_ok-check_room.was) in omega (arith, y)
 
-pub returns-then-refuses-2 : goal.returns-then-refuses-2
-returns-then-refuses-2 c =
-    read-refused _ _ c.check_room-room.ensures c.refuses.ensures c.if-refuses.false c.take_records-records.ensures c.refuses-2.ensures c.if-refuses-2.true c.refuse.ensures
+-- any other refusal
+pub returns-then-is_err : goal.returns-then-is_err
+returns-then-is_err c =
+    read_refused _ _ (sym c.check_room.ensures ∙ c.in_ok-check_room.was) c.take-taken.ensures (sym c.is_err.ensures.value ∙ c.if-is_err.true) c.clear.ensures
 
-pub check_taken-o-requires : goal.check_taken-o-requires
-check_taken-o-requires c =
-    let (x, y) = room _ _ (passed_on c.check_room-room.ensures c.refuses.ensures c.if-refuses.false) in
-    (x, omega (arith, y), taken-used _ _ c.check_room-room.ensures c.refuses.ensures c.if-refuses.false c.take_records-records.ensures c.refuses-2.ensures c.if-refuses-2.false, taken_rising _ _ c.check_room-room.ensures c.refuses.ensures c.if-refuses.false c.take_records-records.ensures c.refuses-2.ensures c.if-refuses-2.false)
-
-pub refuse-requires-then-refuses-3 : goal.refuse-requires-then-refuses-3
-refuse-requires-then-refuses-3 c =
-    let (x, y) = room _ _ (passed_on c.check_room-room.ensures c.refuses.ensures c.if-refuses.false) in omega (arith, y)
-
-pub returns-then-refuses-3 : goal.returns-then-refuses-3
-returns-then-refuses-3 c =
-    read_rejected _ _ c.check_room-room.ensures c.refuses.ensures c.if-refuses.false c.take_records-records.ensures c.refuses-2.ensures c.if-refuses-2.false c.check_taken-o.ensures c.refuses-3.ensures c.if-refuses-3.true c.refuse-then-refuses-3.ensures
-
-pub word-modulus-requires : goal.word-modulus-requires
-unfolding sheet_bytes record_bytes most_parts terms limit
-word-modulus-requires c =
-    let (x, y) = room _ _ (passed_on c.check_room-room.ensures c.refuses.ensures c.if-refuses.false) in omega (arith, x)
-
-pub made_ready-requires : goal.made_ready-requires
-made_ready-requires c =
-    let (passes, k) = taken-composes _ _ c.check_room-room.ensures c.refuses.ensures c.if-refuses.false c.take_records-records.ensures c.refuses-2.ensures c.if-refuses-2.false c.check_taken-o.ensures c.refuses-3.ensures c.if-refuses-3.false in
-    rw (c.modulus.ensures, c.word-modulus.ensures) (accepted-modulus passes)
-
-pub compose-polynomial-requires : goal.compose-polynomial-requires
-compose-polynomial-requires c =
-    let (x, y) = room _ _ (passed_on c.check_room-room.ensures c.refuses.ensures c.if-refuses.false) in
-    let (passes, k) = taken-composes _ _ c.check_room-room.ensures c.refuses.ensures c.if-refuses.false c.take_records-records.ensures c.refuses-2.ensures c.if-refuses-2.false c.check_taken-o.ensures c.refuses-3.ensures c.if-refuses-3.false in
-    let d = c.made_ready.ensures in
-    (d.1, omega (arith, y), rw (d.0, c.modulus.ensures, c.word-modulus.ensures) k)
-
-pub returns : goal.returns
-returns c =
-    read_taken _ _ c.check_room-room.ensures c.refuses.ensures c.if-refuses.false c.take_records-records.ensures c.refuses-2.ensures c.if-refuses-2.false c.check_taken-o.ensures c.refuses-3.ensures c.if-refuses-3.false c.word-modulus.ensures c.modulus.ensures (rw c.made_ready.ensures.0 at c.compose-polynomial.ensures)
+pub returns-else-is_err : goal.returns-else-is_err
+returns-else-is_err c =
+    read_taken _ _ (sym c.check_room.ensures ∙ c.in_ok-check_room.was) c.take-taken.ensures (sym c.is_err.ensures.value ∙ c.if-is_err.false)

@@ -1,7 +1,0 @@
-use mathlib.Core.Path.{refl}
-use Rattle.algebra.specs.Polynomial.{limit, terms}
-use Rattle.sheet_reader.proofs.identity.Goals as goal
-
-pub returns : goal.returns
-unfolding terms limit
-returns c = refl
