@@ -197,7 +197,7 @@ unused_refused b none =
     let passes = each_all (λ i. check_placed (record_at b i) i) most_parts (λ i l. simp (none i l)) in
     let first = none 0 (omega arith) in
     let twelve : check_order (λ i. used (record_at b i)) ≡ refusal Neither Sheet
-    = sym (each_stop (λ i. refuse (not (in_order (λ i. used (record_at b i)) i)) Neither Sheet) most_parts 0 {o = refusal Neither Sheet} (omega arith) (each_none _) (sym (ap (λ (t : Bool). refuse (not t) Neither Sheet) first)) refl) in
+    = sym (each_stop (λ i. refuse (not (in_order (λ i. used (record_at b i)) i)) Neither Sheet) most_parts 0 (omega arith) (each_none _) (ap (λ (t : Bool). refuse (not t) Neither Sheet) first)) in
     simp (passes, twelve)
 
 -- so is a sheet of zero bytes

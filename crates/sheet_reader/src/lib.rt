@@ -95,5 +95,9 @@ pub fn read(sheet: &[u8], area: &mut [u32]) -> Result<Sheet, Refusal>
     ensures { ReadsSheet sheet.now area.old area.new (contents_of result) }
 {
     sheet_checks::check_room(sheet.len(), area.len())?;
-    take(sheet, area).inspect_err(|_| area::clear(area))
+    let taken = take(sheet, area);
+    if taken.is_err() {
+        area::clear(area);
+    }
+    taken
 }
