@@ -14,7 +14,7 @@ use Rattle.refusal.specs.declared.Refusal.{Refusal}
 use Rattle.polynomial.specs.declared.Pair.{Pair}
 use Rattle.polynomial.specs.Answers.{Answer, Parts, answer_of, parts_of, nothing, no_parts, zero_pair}
 use Rattle.record.specs.declared.Record.{Record}
-use Rattle.record.specs.Record.{checked, checked_of, no_record, zeros}
+use Rattle.record.specs.Record.{checked, checked_of, no_record, zeros, Checked}
 use Rattle.pair.specs.Asking.{verdict_of, QuickOf, Verdict}
 use Rattle.change.specs.declared.Change.{Change}
 use Rattle.change.specs.Changing.{Made, made_of, identity}
@@ -33,8 +33,18 @@ module _ {o : face.Refused} where
   pub checked_told : {b : List ℕ} (x : Result Record Refusal) {c : Record} → checked_of x ≡ checked b → ResultUnwrapsOrElse x (λ c. c ≡ zeros) c
       → o ≡ told_by (result_err x) → CheckedAs b o c.modulus c.polynomial c.degree
   unfolding no_record
-  checked_told (Ok r) {c} is w t = rw (← is, t, w) (record { refused = refl; modulus_is = refl; f_is = refl; degree_is = refl })
-  checked_told (Err e) {c} is w t = rw (← is, t, w) (record { refused = refl; modulus_is = refl; f_is = refl; degree_is = refl })
+  checked_told (Ok r) is w t = record {
+    refused = t ∙ ap (λ (x : Checked). told x.outcome) is;
+    modulus_is = ap (λ (c : Record). c.modulus) w ∙ ap (λ (x : Checked). x.modulus) is;
+    f_is = ap (λ (c : Record). c.polynomial) w ∙ ap (λ (x : Checked). x.polynomial) is;
+    degree_is = ap (λ (c : Record). c.degree) w ∙ ap (λ (x : Checked). x.degree) is;
+  }
+  checked_told (Err e) is w t = record {
+    refused = t ∙ ap (λ (x : Checked). told x.outcome) is;
+    modulus_is = ap (λ (c : Record). c.modulus) w ∙ ap (λ (x : Checked). x.modulus) is;
+    f_is = ap (λ (c : Record). c.polynomial) w ∙ ap (λ (x : Checked). x.polynomial) is;
+    degree_is = ap (λ (c : Record). c.degree) w ∙ ap (λ (x : Checked). x.degree) is;
+  }
 
   pub answer_told : {Of : Answer → Type 0} {f : List ℕ} (x : Result (List ℕ) Refusal) → Of (answer_of x) → f ≡ result_unwrap_or x (replicate terms 0)
       → o ≡ told_by (result_err x) → AnswersAs Of o f
@@ -54,9 +64,9 @@ module _ {o : face.Refused} where
   made_told (Err e) is w t = record { made = made_of (Err e); is = is; refused = t; out_is = ap (λ (c : Change). c.unit ∷ c.origin ∷ []) w }
 
   pub chained_told : {m : ℕ} {f xs ys : List ℕ} {c : chain.Numbers} (x : Result chain.Numbers Refusal) → ChainOf m f xs ys (chained_of x)
-      → ResultUnwrapsOrElse x (λ c. c ≡ record { parts = 0; tries = 0; price = 0 }) c → o ≡ told_by (result_err x) → ChainedAs m f xs ys o (c.parts ∷ c.tries ∷ c.price ∷ [])
+      → ResultUnwrapsOrElse x (λ c. (c.parts ≡ 0) × ((c.tries ≡ 0) × (c.price ≡ 0))) c → o ≡ told_by (result_err x) → ChainedAs m f xs ys o (c.parts ∷ c.tries ∷ c.price ∷ [])
   chained_told (Ok c) is w t = record { chained = chained_of (Ok c); is = is; refused = t; numbers_are = ap (λ (c : chain.Numbers). c.parts ∷ c.tries ∷ c.price ∷ []) w }
-  chained_told (Err e) is w t = record { chained = chained_of (Err e); is = is; refused = t; numbers_are = ap (λ (c : chain.Numbers). c.parts ∷ c.tries ∷ c.price ∷ []) w }
+  chained_told (Err e) is w t = record { chained = chained_of (Err e); is = is; refused = t; numbers_are = rw (w.0, w.1.0, w.1.1) refl }
 
   pub numbered_told : {m : ℕ} {f : List ℕ} {k : ℕ} (x : Result ℕ Refusal) → NumberOf m f (numbered_of x) → k ≡ result_unwrap_or x 0
       → o ≡ told_by (result_err x) → NumberedAs m f o k
@@ -64,9 +74,9 @@ module _ {o : face.Refused} where
   numbered_told (Err e) is w t = record { numbered = numbered_of (Err e); is = is; refused = t; number_is = w }
 
   pub chosen_told : {m j : ℕ} {f xs ys : List ℕ} {c : chains.Numbers} (x : Result chains.Numbers Refusal) → NthOf m f j xs ys (chosen_of x)
-      → ResultUnwrapsOrElse x (λ c. c ≡ record { parts = 0; price = 0 }) c → o ≡ told_by (result_err x) → ChosenAs m f j xs ys o (c.parts ∷ c.price ∷ [])
+      → ResultUnwrapsOrElse x (λ c. (c.parts ≡ 0) × (c.price ≡ 0)) c → o ≡ told_by (result_err x) → ChosenAs m f j xs ys o (c.parts ∷ c.price ∷ [])
   chosen_told (Ok c) is w t = record { chosen = chosen_of (Ok c); is = is; refused = t; numbers_are = ap (λ (c : chains.Numbers). c.parts ∷ c.price ∷ []) w }
-  chosen_told (Err e) is w t = record { chosen = chosen_of (Err e); is = is; refused = t; numbers_are = ap (λ (c : chains.Numbers). c.parts ∷ c.price ∷ []) w }
+  chosen_told (Err e) is w t = record { chosen = chosen_of (Err e); is = is; refused = t; numbers_are = rw (w.0, w.1) refl }
 
   pub sheet_told : {w : ℕ} {xs b c : List ℕ} (x : Outcome) → WritesSheet w xs b c x → o ≡ told_by (result_err x) → SheetAs w xs b c o
   sheet_told (Ok u) is t = record { outcome = Ok u; is = is; refused = t }
