@@ -31,14 +31,14 @@ use Rattle.sheets.proofs.Pieces.{front, put-here, put-before, put-past}
 
 module _ (b : List ℕ) where
   -- its check refuses it
-  pub of_refused : {r : Refusal} → no_record (Refused r) ≡ checked b → {c : List ℕ} → c ≡ replicate sheet_bytes 0 → SheetOf b c
+  pub of_refused : (r : Refusal) → no_record (Refused r) ≡ checked b → {c : List ℕ} → c ≡ replicate sheet_bytes 0 → SheetOf b c
   unfolding no_record
-  of_refused is e = of.refused (sym (check_outcome b is)) e
+  of_refused r is e = of.refused (sym (check_outcome b is)) e
 
   module _ {w n : ℕ} {f : List ℕ} (is : ◌≡◌ {A = Checked} (record { outcome = Answered; modulus = w; polynomial = f; degree = n }) (checked b)) {ys : List ℕ} where
     -- its chain is refused
-    pub of_unchained : {r : Refusal} → ChainOf (modulus w) f (replicate area_words 0) ys (unchained (Refused r)) → {c : List ℕ} → c ≡ replicate sheet_bytes 0 → SheetOf b c
-    of_unchained chain e =
+    pub of_unchained : (r : Refusal) → ChainOf (modulus w) f (replicate area_words 0) ys (unchained (Refused r)) → {c : List ℕ} → c ≡ replicate sheet_bytes 0 → SheetOf b c
+    of_unchained r chain e =
         let (ok, m, g, d) = check_answered b is {t = false} refl refl in
         of.unchained ok (rw (m, g) at chain) refl e
 
