@@ -7,7 +7,7 @@ ghost use Rattle.round.specs.Round.{ChainAsked};
 ghost use Rattle.ending.specs.Ending.{RightmostAt};
 
 use binomial::Table;
-use polynomial::{Coefficients, Pair};
+use polynomial::{Coefficients, Pair, PairDegrees};
 use reciprocal::Divisor;
 
 // The rightmost part of degree s of a complete chain, beside the left part that the others compose to: the pair of f there, if its
@@ -16,7 +16,7 @@ pub fn rightmost(f: Coefficients, n: usize, s: usize, table: &Table, m: Divisor)
     requires { ChainAsked m.number n f × Degrees n (n / s) s }
     ensures { RightmostAt m.number n f s result }
 {
-    let Ok(pair) = pair::split_at(f, n, n / s, s, table, m) else {
+    let Ok(pair) = pair::split_at(f, PairDegrees::at_right(n, s), table, m) else {
         return None;
     };
     if round::splits(pair.right, s, table, m) {

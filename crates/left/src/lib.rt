@@ -12,7 +12,7 @@ ghost use Rattle.division.specs.Division.{DivisionAsked, Raised};
 ghost use Rattle.left.specs.Digits.{Lowest, Digits};
 ghost use Rattle.left.specs.Left.{LeftAsked, LeftAnswer};
 
-use polynomial::{Coefficients, TERMS};
+use polynomial::{Coefficients, PairDegrees, TERMS};
 use reciprocal::Divisor;
 use refusal::{Reason, Refusal};
 
@@ -94,21 +94,19 @@ fn constants(a: &[u32], r: usize, s: usize) -> Coefficients
     g
 }
 
-// The left part of f, of degree n = r * s, for the right part h of degree s; No. 7 if there is none.
+// The left part of f for the right part h, with the degrees d; No. 7 if there is none.
 pub fn left_part(
     f: Coefficients,
     h: Coefficients,
-    n: usize,
-    r: usize,
-    s: usize,
+    d: PairDegrees,
     m: Divisor,
 ) -> Result<Coefficients, Refusal>
-    requires { LeftAsked m.number n r s f h }
-    ensures { LeftAnswer m.number f r h (answer_of result) }
+    requires { LeftAsked m.number d.whole d.left d.right f h }
+    ensures { LeftAnswer m.number f d.left h (answer_of result) }
 {
     let mut a = f;
-    if !expand(&mut a[..n + 1], &h, r, s, m) {
+    if !expand(&mut a[..d.whole + 1], &h, d.left, d.right, m) {
         return Err(Reason::NoPair.into());
     }
-    Ok(constants(&a, r, s))
+    Ok(constants(&a, d.left, d.right))
 }

@@ -1,6 +1,5 @@
 -- Degrees that fit.
 --
---   fits_positive      what fits is not 0
 --   fits-degrees       what fits, with what it leaves, are the degrees of a pair
 --   degrees_fit        the degrees of a pair fit, and the quotient is the other one
 use mathlib.Core.Path.{◌≡◌, sym, ap, ◌∙◌}
@@ -13,13 +12,6 @@ use borrow.Author.Tests.{leb-true, eqb-true, le-leb, eq-eqb}
 use Rattle.algebra.specs.Polynomial.{limit}
 use Rattle.polynomial.specs.Degrees.{Degrees}
 use Rattle.pair.specs.Pairing.{fits}
-
-pub fits_positive : (n d : ℕ) → fits n d ≡ true → 0 < d
-unfolding fits
-fits_positive n d h =
-    let (ab, c) = (and-eq-true_iff (leb 2 d && eqb (n % d) 0) (leb 2 (n / d))).0 h in
-    let low : 2 ≤ d = leb-true _ _ ((and-eq-true_iff (leb 2 d) (eqb (n % d) 0)).0 ab).0 in
-    omega arith
 
 pub fits-degrees : (n d : ℕ) → fits n d ≡ true → n ≤ limit → Degrees n (n / d) d × Degrees n d (n / d)
 unfolding fits

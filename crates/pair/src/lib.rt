@@ -12,7 +12,7 @@ ghost use Rattle.pair.specs.Pairing.{fits as fits_of, compose as compose_of, Lef
 ghost use Rattle.pair.specs.Asking.{verdict_of, QuickOf, QuickAnswer};
 
 use binomial::{ROWS, Table};
-use polynomial::{Coefficients, Pair};
+use polynomial::{Coefficients, Pair, PairDegrees};
 use reciprocal::Divisor;
 use refusal::{Reason, Refusal};
 
@@ -45,86 +45,55 @@ pub fn left_part(m: u32, f: Coefficients, h: Coefficients) -> Result<Coefficient
     if !fits(n, s) {
         return Err(Reason::Fit.into());
     }
-    left::left_part(f, h, n, n / s, s, Divisor::new(m))
+    left::left_part(f, h, PairDegrees::at_right(n, s), Divisor::new(m))
 }
 
-// Whether the root of f, worked out in t, leaves a pair at r and s open. v is the inverse of n, so that of r is s * v: the chain
+// Whether the root of f, worked out in t, leaves a pair open at the degrees d. v is the inverse of n, so that of r is s * v: the chain
 // asks it at every s of a round, with one inverse, and no polynomial is copied for a no.
-pub fn is_open(
-    t: &mut [u32],
-    f: &[u32],
-    n: usize,
-    r: usize,
-    s: usize,
-    v: u32,
-    table: &Table,
-    m: Divisor,
-) -> bool
-    requires { SplitAsked m.number n r s f.now × (n * v % m.number ≡ 1) × Space m.number t.old }
-    ensures { Root m.number f.now r s t.new result }
+pub fn is_open(t: &mut [u32], f: &[u32], d: PairDegrees, v: u32, table: &Table, m: Divisor) -> bool
+    requires { SplitAsked m.number d.whole d.left d.right f.now × (d.whole * v % m.number ≡ 1) × Space m.number t.old }
+    ensures { Root m.number f.now d.left d.right t.new result }
 {
-    let u = residue::multiply(v, s as u32, m);
-    right::root(t, f, n, r, s, u, table.row(r), m)
+    let u = residue::multiply(v, d.right as u32, m);
+    right::root(t, f, d, u, table.row(d.left), m)
 }
 
 // The split where the root in t leaves it open: its right part is there, and its left part is looked for.
-pub fn split_open(
-    f: Coefficients,
-    t: &[u32],
-    n: usize,
-    r: usize,
-    s: usize,
-    m: Divisor,
-) -> Result<Pair, Refusal>
-    requires { Opened m.number n r s f t.now }
-    ensures { SplitAnswer m.number f r s (parts_of result) }
+pub fn split_open(f: Coefficients, t: &[u32], d: PairDegrees, m: Divisor) -> Result<Pair, Refusal>
+    requires { Opened m.number d.whole d.left d.right f t.now }
+    ensures { SplitAnswer m.number f d.left d.right (parts_of result) }
 {
-    let right = right::upside(t, s);
-    let left = left::left_part(f, right, n, r, s, m)?;
+    let right = right::upside(t, d.right);
+    let left = left::left_part(f, right, d, m)?;
     Ok(Pair { left, right })
 }
 
-// The split at the left degree r and the right degree s, with row r of the binomials lent.
-fn split_by(
-    f: Coefficients,
-    n: usize,
-    r: usize,
-    s: usize,
-    row: &[u64],
-    m: Divisor,
-) -> Result<Pair, Refusal>
-    requires { SplitAsked m.number n r s f × HasRow r (min r (s + 1)) row.now }
-    ensures { SplitAnswer m.number f r s (parts_of result) }
+// The split at the degrees d, with row r of the binomials lent.
+fn split_by(f: Coefficients, d: PairDegrees, row: &[u64], m: Divisor) -> Result<Pair, Refusal>
+    requires { SplitAsked m.number d.whole d.left d.right f × HasRow d.left (min d.left (d.right + 1)) row.now }
+    ensures { SplitAnswer m.number f d.left d.right (parts_of result) }
 {
-    let u = inverse::invert(r as u64, m.number)?;
+    let u = inverse::invert(d.left as u64, m.number)?;
     let mut t = [0; right::WORDS];
-    if !right::root(&mut t, &f, n, r, s, u, row, m) {
+    if !right::root(&mut t, &f, d, u, row, m) {
         return Err(Reason::NoPair.into());
     }
-    split_open(f, &t, n, r, s, m)
+    split_open(f, &t, d, m)
 }
 
 // The same with the table of binomials lent.
-pub fn split_at(
-    f: Coefficients,
-    n: usize,
-    r: usize,
-    s: usize,
-    table: &Table,
-    m: Divisor,
-) -> Result<Pair, Refusal>
-    requires { SplitAsked m.number n r s f }
-    ensures { SplitAnswer m.number f r s (parts_of result) }
+pub fn split_at(f: Coefficients, d: PairDegrees, table: &Table, m: Divisor) -> Result<Pair, Refusal>
+    requires { SplitAsked m.number d.whole d.left d.right f }
+    ensures { SplitAnswer m.number f d.left d.right (parts_of result) }
 {
-    split_by(f, n, r, s, table.row(r), m)
+    split_by(f, d, table.row(d.left), m)
 }
 
-// Row r of the binomials, as far as the root at r and s wants it: one split is no reason to write out the table.
-fn row_for(r: usize, s: usize) -> [u64; ROWS]
-    requires { (r < rows) × (s < rows) }
-    ensures { HasRow r (min r (s + 1)) result }
+// Row r of the binomials, as far as the root wants it: one split is no reason to write out the table.
+fn row_for(d: PairDegrees) -> [u64; ROWS]
+    ensures { HasRow d.left (min d.left (d.right + 1)) result }
 {
-    binomial::row(r, r.min(s + 1))
+    binomial::row(d.left, d.left.min(d.right + 1))
 }
 
 // 1, 2, 3, 4; 6: what a split at r refuses before it looks for a pair. n is the degree of f.
@@ -146,31 +115,22 @@ pub fn split(m: u32, f: Coefficients, r: usize) -> Result<Pair, Refusal>
     let m = polynomial::modulus(m);
     let n = polynomial::degree(&f);
     check_split(m, &f, n, r)?;
-    let s = n / r;
-    let row = row_for(r, s);
-    split_by(f, n, r, s, &row, Divisor::new(m))
+    let d = PairDegrees::at_left(n, r);
+    split_by(f, d, &row_for(d), Divisor::new(m))
 }
 
-// The quick question by the inverse u of r: the root says most nos, and all digits the others. What differs is the highest power at
-// which the forced pair, composed, and f do; nothing if f splits.
-fn report(
-    f: Coefficients,
-    n: usize,
-    r: usize,
-    s: usize,
-    u: u32,
-    row: &[u64],
-    m: Divisor,
-) -> Option<usize>
-    requires { SplitAsked m.number n r s f × HasRow r (min r (s + 1)) row.now × (r * u % m.number ≡ 1) }
-    ensures { QuickAnswer m.number f r s (verdict_of (Ok result)) }
+// The quick question at the degrees d, by the inverse u of r: the root says most nos, and all digits the others. What differs is the
+// highest power at which the forced pair, composed, and f do; nothing if f splits.
+fn report(f: Coefficients, d: PairDegrees, u: u32, row: &[u64], m: Divisor) -> Option<usize>
+    requires { SplitAsked m.number d.whole d.left d.right f × HasRow d.left (min d.left (d.right + 1)) row.now × (d.left * u % m.number ≡ 1) }
+    ensures { QuickAnswer m.number f d.left d.right (verdict_of (Ok result)) }
 {
     let mut t = [0; right::WORDS];
-    if !right::root(&mut t, &f, n, r, s, u, row, m) {
-        return Some(n - s - 1);
+    if !right::root(&mut t, &f, d, u, row, m) {
+        return Some(d.whole - d.right - 1);
     }
-    let h = right::upside(&t, s);
-    let power = report::report(f, h, n, r, s, m);
+    let h = right::upside(&t, d.right);
+    let power = report::report(f, h, d, m);
     if power == 0 { None } else { Some(power) }
 }
 
@@ -183,7 +143,6 @@ pub fn quick(m: u32, f: Coefficients, r: usize) -> Result<Option<usize>, Refusal
     let n = polynomial::degree(&f);
     check_split(m, &f, n, r)?;
     let u = inverse::invert(r as u64, m)?;
-    let s = n / r;
-    let row = row_for(r, s);
-    Ok(report(f, n, r, s, u, &row, Divisor::new(m)))
+    let d = PairDegrees::at_left(n, r);
+    Ok(report(f, d, u, &row_for(d), Divisor::new(m)))
 }

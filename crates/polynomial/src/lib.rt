@@ -1,11 +1,12 @@
 // A polynomial of the desk: its limit, its degree, and the checks 1 to 4 of 01 in their order.
 #![tactic(auto)]
 
-ghost use Rattle.std.specs.Prelude.{◌≡◌, ◌≢◌, ◌<◌, ℕ, position, nat_le, length, IfNone, IfSome, slice_index};
+ghost use Rattle.std.specs.Prelude.{◌≡◌, ◌≢◌, ◌<◌, ℕ, ◌/◌, position, nat_le, length, IfNone, IfSome, slice_index};
 ghost use Rattle.algebra.specs.Polynomial.{degree as degree_of};
 ghost use Rattle.polynomial.specs.Moduli.{modulus as modulus_of, check_modulus};
 ghost use Rattle.polynomial.specs.Answers.{zero_pair};
 ghost use Rattle.polynomial.specs.Checks.{check_polynomial, check_one, check_two, check_pair, Measured};
+ghost use Rattle.polynomial.specs.Degrees.{Degrees};
 
 use reciprocal::MACHINE_WORDS;
 use refusal::{Concerns, Reason, Refusal};
@@ -42,6 +43,41 @@ impl Default for Pair {
         Pair {
             left: ZEROS,
             right: ZEROS,
+        }
+    }
+}
+
+// The degrees of a pair: that of the polynomial, n = r * s, the left degree r and the right degree s.
+#[derive(Clone, Copy)]
+pub struct PairDegrees {
+    pub whole: usize,
+    pub left: usize,
+    pub right: usize,
+    pub ghost fit: { Degrees whole left right },
+}
+
+impl PairDegrees {
+    // Those at the right degree s.
+    pub fn at_right(n: usize, s: usize) -> PairDegrees
+        requires { Degrees n (n / s) s }
+        ensures { (result.whole ≡ n) × (result.left ≡ n / s) × (result.right ≡ s) }
+    {
+        PairDegrees {
+            whole: n,
+            left: n / s,
+            right: s,
+        }
+    }
+
+    // Those at the left degree r.
+    pub fn at_left(n: usize, r: usize) -> PairDegrees
+        requires { Degrees n r (n / r) }
+        ensures { (result.whole ≡ n) × (result.left ≡ r) × (result.right ≡ n / r) }
+    {
+        PairDegrees {
+            whole: n,
+            left: r,
+            right: n / r,
         }
     }
 }

@@ -8,7 +8,7 @@ ghost use Rattle.division.specs.Division.{DivisionAsked, Raised};
 ghost use Rattle.left.specs.Left.{LeftAsked};
 ghost use Rattle.report.specs.Report.{Expanded, HighestAt, LeftReport};
 
-use polynomial::Coefficients;
+use polynomial::{Coefficients, PairDegrees};
 use reciprocal::Divisor;
 
 // The lowest n digits of p, constants or not, one by one; above them the quotient.
@@ -60,16 +60,16 @@ fn highest(p: &[u32], r: usize, s: usize) -> usize
     0
 }
 
-// The highest power at which f, of degree n = r * s, and g(h) differ for the forced left part g; 0 if f = g(h). No digit ends it
-// early: the highest that is no constant is wanted, and it is found last.
-pub fn report(f: Coefficients, h: Coefficients, n: usize, r: usize, s: usize, m: Divisor) -> usize
-    requires { LeftAsked m.number n r s f h }
-    ensures { LeftReport m.number f r s h result }
+// The highest power at which f and g(h) differ for the forced left part g, with the degrees d; 0 if f = g(h). No digit ends it early:
+// the highest that is no constant is wanted, and it is found last.
+pub fn report(f: Coefficients, h: Coefficients, d: PairDegrees, m: Divisor) -> usize
+    requires { LeftAsked m.number d.whole d.left d.right f h }
+    ensures { LeftReport m.number f d.left d.right h result }
 {
-    let k = division::at_once(r);
+    let k = division::at_once(d.left);
     let mut b = h;
-    division::raise(&mut b, &h, k, s, m);
+    division::raise(&mut b, &h, k, d.right, m);
     let mut a = f;
-    all_digits(&mut a[..n + 1], &h, &b, k, r, s, m);
-    highest(&a[..n + 1], r, s)
+    all_digits(&mut a[..d.whole + 1], &h, &b, k, d.left, d.right, m);
+    highest(&a[..d.whole + 1], d.left, d.right)
 }

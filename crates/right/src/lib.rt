@@ -10,13 +10,12 @@
 
 ghost use Rattle.std.specs.Prelude.{◌≡◌, min, ◌+◌, ◌*◌, ◌%◌, ◌≤◌, ◌<◌, length};
 ghost use Rattle.algebra.specs.Polynomial.{limit, Reduced};
-ghost use Rattle.polynomial.specs.Degrees.{Degrees};
 ghost use Rattle.binomial.specs.Triangle.{rows, HasRow};
 ghost use Rattle.right.specs.Right.{RightAsked, Root};
 ghost use Rattle.right.specs.Rows.{words, Space, Scaled, ColumnRoom, Column, Rows, Upside};
 
 use binomial::ROWS;
-use polynomial::{Coefficients, TERMS};
+use polynomial::{Coefficients, PairDegrees, TERMS};
 use reciprocal::Divisor;
 
 // How many words the rows of any degrees take at the most: r rows of s + 2 places.
@@ -50,15 +49,15 @@ fn column(t: &mut [u32], w: usize, k: usize, n: usize, m: Divisor)
 }
 
 // Column k, whole: the rows after the first, then the place of row 0 that 01's equation asks, f's coefficient among its terms.
-fn next(t: &mut [u32], f: &[u32], b: &[u32], n: usize, r: usize, s: usize, k: usize, m: Divisor)
-    requires asked { Degrees n r s × Reduced m.number f.now × (length b.now ≡ rows) }
-    requires rows { Rows m.number f.now n r (s + 2) b.now k t.old × (0 < k) × (k < s + 2) }
-    ensures { Rows m.number f.now n r (s + 2) b.now (k + 1) t.new }
+fn next(t: &mut [u32], f: &[u32], b: &[u32], d: PairDegrees, k: usize, m: Divisor)
+    requires asked { Reduced m.number f.now × (length b.now ≡ rows) }
+    requires rows { Rows m.number f.now d.whole d.left (d.right + 2) b.now k t.old × (0 < k) × (k < d.right + 2) }
+    ensures { Rows m.number f.now d.whole d.left (d.right + 2) b.now (k + 1) t.new }
 {
-    let w = s + 2;
-    let last = r.min(k);
+    let w = d.right + 2;
+    let last = d.left.min(k);
     column(t, w, k, last - 1, m);
-    t[k] = f[n - k];
+    t[k] = f[d.whole - k];
     let x = inner::strided_product(b, t, 1, last + 1, k, w, m);
     t[k] = x;
 }
@@ -76,24 +75,15 @@ pub fn upside(t: &[u32], s: usize) -> Coefficients
     h
 }
 
-// The r-th root of f, of degree n = r * s, in the rows of t; u is the inverse of r, and row has row r of the binomials. "No" if its
+// The r-th root of f, for its left degree r, in the rows of t; u is the inverse of r, and row has row r of the binomials. "No" if its
 // place s + 1 shows that there is no pair. t may hold the rows of another root.
-pub fn root(
-    t: &mut [u32],
-    f: &[u32],
-    n: usize,
-    r: usize,
-    s: usize,
-    u: u32,
-    row: &[u64],
-    m: Divisor,
-) -> bool
-    requires { RightAsked m.number n r s u f.now × HasRow r (min r (s + 1)) row.now × Space m.number t.old }
-    ensures { Root m.number f.now r s t.new result }
+pub fn root(t: &mut [u32], f: &[u32], d: PairDegrees, u: u32, row: &[u64], m: Divisor) -> bool
+    requires { RightAsked m.number d.whole d.left d.right u f.now × HasRow d.left (min d.left (d.right + 1)) row.now × Space m.number t.old }
+    ensures { Root m.number f.now d.left d.right t.new result }
 {
-    let b = binomials(row, r, r.min(s + 1), u, m);
-    for k in 1..s + 2 {
-        next(t, f, &b, n, r, s, k, m);
+    let b = binomials(row, d.left, d.left.min(d.right + 1), u, m);
+    for k in 1..d.right + 2 {
+        next(t, f, &b, d, k, m);
     }
-    t[s + 1] == 0
+    t[d.right + 1] == 0
 }

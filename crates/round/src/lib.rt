@@ -6,7 +6,7 @@ ghost use Rattle.algebra.specs.Number.{Coprime, Modulus};
 ghost use Rattle.round.specs.Round.{ChainAsked, Searched, Splittable};
 
 use binomial::Table;
-use polynomial::{Coefficients, Pair};
+use polynomial::{Coefficients, Pair, PairDegrees};
 use reciprocal::Divisor;
 
 // A split: the right degree at which it was found, and the pair there.
@@ -44,10 +44,11 @@ pub fn first_split(f: Coefficients, n: usize, v: u32, table: &Table, m: Divisor)
             continue;
         }
         tries += 1;
-        if !pair::is_open(&mut rows, &f, n, n / s, s, v, table, m) {
+        let d = PairDegrees::at_right(n, s);
+        if !pair::is_open(&mut rows, &f, d, v, table, m) {
             continue;
         }
-        if let Ok(pair) = pair::split_open(f, &rows, n, n / s, s, m) {
+        if let Ok(pair) = pair::split_open(f, &rows, d, m) {
             return Round {
                 tries,
                 split: Some(Split { at: s, pair }),

@@ -5,7 +5,7 @@ use Rattle.std.specs.Prelude.{Err}
 use Rattle.algebra.specs.Polynomial.{limit, terms}
 use Rattle.polynomial.proofs.Acceptance.{accepted-modulus, accepted-two, accepted_as}
 use Rattle.pair.specs.Pairing.{refused}
-use Rattle.pair.proofs.Fitting.{fits_positive, fits-degrees}
+use Rattle.pair.proofs.Fitting.{fits-degrees}
 use Rattle.pair.proofs.Answering.{left_stopped, left_misfit, left-told}
 use Rattle.pair.proofs.left_part.Goals as goal
 
@@ -29,9 +29,11 @@ pub new-requires : goal.new-requires
 unfolding terms limit
 new-requires c = accepted-modulus (accepted-two (omega arith) (omega arith) (sym c.check_two.ensures ∙ c.in_ok-check_two.was)).0.modulus
 
--- a right degree that fits is not 0
-pub nonzero_div-n : goal.nonzero_div-n
-nonzero_div-n c = fits_positive _ _ (sym c.fits.ensures ∙ c.if-not-fits.false)
+pub at_right-requires : goal.at_right-requires
+unfolding terms limit
+at_right-requires c =
+    let (w, hf, f2) = accepted_as c.degree-n.ensures (accepted-two (omega arith) (omega arith) (sym c.check_two.ensures ∙ c.in_ok-check_two.was)).0 in
+    (fits-degrees _ _ (sym c.fits.ensures ∙ c.if-not-fits.false) hf.within).0
 
 pub left_part-requires : goal.left_part-requires
 unfolding terms limit
@@ -39,9 +41,10 @@ left_part-requires c =
     let (af, ah) = accepted-two (omega arith) (omega arith) (sym c.check_two.ensures ∙ c.in_ok-check_two.was) in
     let (w, hf, f2) = accepted_as c.degree-n.ensures af in
     let (v, hh, h2) = accepted_as c.degree-s.ensures ah in
-    record { modulus = c.new.result.modulus; degrees = (fits-degrees _ _ (sym c.fits.ensures ∙ c.if-not-fits.false) hf.within).0; whole = rw c.new.ensures hf; right = rw c.new.ensures hh }
+    let (n, r, s) = c.at_right.ensures in
+    record { modulus = c.new.result.modulus; degrees = c.at_right.result.fit; whole = rw (n, c.new.ensures) hf; right = rw (s, c.new.ensures) hh }
 
 pub returns : goal.returns
 returns c =
     rw (← c.modulus-m.ensures)
-    (left-told _ _ _ (sym c.check_two.ensures ∙ c.in_ok-check_two.was) c.degree-n.ensures c.degree-s.ensures c.fits.ensures c.if-not-fits.false (rw c.new.ensures at c.left_part.ensures))
+    (left-told _ _ _ (sym c.check_two.ensures ∙ c.in_ok-check_two.was) c.degree-n.ensures c.degree-s.ensures c.fits.ensures c.if-not-fits.false (rw (c.at_right.ensures.1, c.new.ensures) at c.left_part.ensures))

@@ -9,7 +9,6 @@ use Rattle.inverse.proofs.Inverses.{inverse-coprime, shared_not_coprime}
 use Rattle.pair.specs.Asking.{refused, shared}
 use Rattle.pair.proofs.Answering.{quick_told}
 use Rattle.pair.proofs.Determined.{split_modulus, split_given}
-use Rattle.pair.proofs.Forcing.{below_rows}
 use Rattle.pair.proofs.quick.Goals as goal
 
 pub check_split-requires : goal.check_split-requires
@@ -32,14 +31,9 @@ returns-in_err-u c =
     let e : c.from_residual-in_err-u.result ≡ Err (naming_none Factor) = search rules in
     rw (e, ← c.modulus-m.ensures) (shared (sym c.check_split.ensures ∙ c.in_ok-check_split.was) (shared_not_coprime c.in_err-u.ensures) refl)
 
--- a left degree that fits is not 0
-pub nonzero_div-s : goal.nonzero_div-s
+pub at_left-d-requires : goal.at_left-d-requires
 unfolding terms limit
-nonzero_div-s c = let p = split_given (omega arith) (sym c.check_split.ensures ∙ c.in_ok-check_split.was) c.degree-n.ensures in omega (arith, p.degrees.two_left)
-
-pub row_for-row-requires : goal.row_for-row-requires
-unfolding terms limit
-row_for-row-requires c = below_rows (split_given (omega arith) (sym c.check_split.ensures ∙ c.in_ok-check_split.was) c.degree-n.ensures).degrees
+at_left-d-requires c = (split_given (omega arith) (sym c.check_split.ensures ∙ c.in_ok-check_split.was) c.degree-n.ensures).degrees
 
 pub new-requires : goal.new-requires
 unfolding terms limit
@@ -48,9 +42,10 @@ new-requires c = split_modulus _ _ (omega arith) (sym c.check_split.ensures ∙ 
 pub report-requires : goal.report-requires
 unfolding terms limit
 report-requires c =
-    (rw c.new.ensures (split_given (omega arith) (sym c.check_split.ensures ∙ c.in_ok-check_split.was) c.degree-n.ensures), c.row_for-row.ensures, rw c.new.ensures c.in_ok-u.ensures.1)
+    let d = c.at_left-d.ensures in
+    (rw (d.0, d.1, d.2, c.new.ensures) (split_given (omega arith) (sym c.check_split.ensures ∙ c.in_ok-check_split.was) c.degree-n.ensures), c.row_for.ensures, rw (d.1, c.new.ensures) c.in_ok-u.ensures.1)
 
 pub returns : goal.returns
 returns c =
     rw (← c.modulus-m.ensures)
-    (quick_told _ _ _ (sym c.check_split.ensures ∙ c.in_ok-check_split.was) c.degree-n.ensures (inverse-coprime c.in_ok-u.ensures) (rw c.new.ensures at c.report.ensures))
+    (quick_told _ _ _ (sym c.check_split.ensures ∙ c.in_ok-check_split.was) c.degree-n.ensures (inverse-coprime c.in_ok-u.ensures) (rw (c.at_left-d.ensures.1, c.at_left-d.ensures.2, c.new.ensures) at c.report.ensures))

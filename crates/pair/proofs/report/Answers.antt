@@ -14,14 +14,14 @@ unfolding words terms limit
 root-requires c =
     let p = c.requires in
     let a = c.args in
-    let unit = ap (λ (x : ℕ). x % a.m.number) (mul_comm a.u a.r) ∙ p.2 ∙ sym (mod-eq_of_lt p.0.modulus.above_one) in
+    let unit = ap (λ (x : ℕ). x % a.m.number) (mul_comm a.u a.d.left) ∙ p.2 ∙ sym (mod-eq_of_lt p.0.modulus.above_one) in
     (asked_root p.0 unit, p.1, room-none (omega (arith, p.0.modulus.above_one)))
 
 pub overflow_sub-result : goal.overflow_sub-result
-overflow_sub-result c = omega (arith, right_twice c.requires.0.degrees)
+overflow_sub-result c = omega (arith, right_twice c.args.d.fit)
 
 pub overflow_sub-result-then-not-root : goal.overflow_sub-result-then-not-root
-overflow_sub-result-then-not-root c = let d = c.requires.0.degrees in omega (arith, right_twice d, d.two_right)
+overflow_sub-result-then-not-root c = let d = c.args.d.fit in omega (arith, right_twice d, d.two_right)
 
 -- the root says no
 pub returns-then-not-root : goal.returns-then-not-root

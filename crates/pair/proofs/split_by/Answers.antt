@@ -25,7 +25,7 @@ unfolding words terms limit
 root-requires c =
     let p = c.requires in
     let a = c.args in
-    let unit = ap (λ (x : ℕ). x % a.m.number) (mul_comm _ a.r) ∙ c.in_ok-u.ensures.1 ∙ sym (mod-eq_of_lt p.0.modulus.above_one) in
+    let unit = ap (λ (x : ℕ). x % a.m.number) (mul_comm _ a.d.left) ∙ c.in_ok-u.ensures.1 ∙ sym (mod-eq_of_lt p.0.modulus.above_one) in
     (asked_root p.0 unit, p.1, room-none (omega (arith, p.0.modulus.above_one)))
 
 -- No. 7: the root says no

@@ -11,7 +11,7 @@ pub raise-requires : goal.raise-requires
 raise-requires c =
     let p = c.requires in
     let k = c.at_once-k.ensures in
-    (p.right, refl, k.0, omega (arith, p.degrees.product, p.degrees.within, N.mul-le-mul_right c.args.s k.1))
+    (p.right, refl, k.0, omega (arith, p.degrees.product, p.degrees.within, N.mul-le-mul_right c.args.d.right k.1))
 
 pub all_digits-requires : goal.all_digits-requires
 all_digits-requires c =

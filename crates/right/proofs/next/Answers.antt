@@ -10,25 +10,26 @@ use Rattle.right.proofs.next.Goals as goal
 pub column-requires : goal.column-requires
 column-requires c =
     let p = c.requires in
-    record { long = p.rows.0.room.long; inside = omega arith; few = omega arith; room = column_room p.asked.0 c.min-last.ensures (omega arith) (omega arith) }
+    record { long = p.rows.0.room.long; inside = omega arith; few = omega arith; room = column_room c.args.d.fit c.min-last.ensures (omega arith) (omega arith) }
 
 pub strided_product-x-requires : goal.strided_product-x-requires
 unfolding limit rows
 strided_product-x-requires c =
     let p = c.requires in
-    column_strides p.asked.0 c.min-last.ensures (omega arith) (omega (arith, left_twice p.asked.0, p.asked.2))
+    column_strides c.args.d.fit c.min-last.ensures (omega arith) (omega (arith, left_twice c.args.d.fit, p.asked.1))
     (length-set c.column.new.t c.args.k _ ∙ c.column.ensures.long ∙ p.rows.0.room.long)
 
 pub bounds-t-k-2 : goal.bounds-t-k-2
 unfolding limit terms words
 bounds-t-k-2 c =
     rw (length-set c.column.new.t c.args.k _)
-    (omega (arith, right_twice c.requires.asked.0, c.column.ensures.long, c.requires.rows.0.room.long))
+    (omega (arith, right_twice c.args.d.fit, c.column.ensures.long, c.requires.rows.0.room.long))
 
 pub returns : goal.returns
 unfolding limit terms words
 returns c =
     let p = c.requires in
-    let q = right_twice p.asked.0 in
-    rows_next _ _ _ c.min-last.ensures p.rows.0 c.column.ensures p.asked.0.two_left (omega arith) (omega arith) (omega arith)
-    (omega (arith, c.column.ensures.long, p.rows.0.room.long)) refl (p.asked.1.below _ (omega arith)) c.strided_product-x.ensures
+    let d = c.args.d.fit in
+    let q = right_twice d in
+    rows_next _ _ _ c.min-last.ensures p.rows.0 c.column.ensures d.two_left (omega arith) (omega arith) (omega arith)
+    (omega (arith, c.column.ensures.long, p.rows.0.room.long)) refl (p.asked.0.below _ (omega arith)) c.strided_product-x.ensures

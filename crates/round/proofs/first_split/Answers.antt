@@ -26,26 +26,38 @@ pub slice_bounds-is_open-end-in-loop-s : goal.slice_bounds-is_open-end-in-loop-s
 unfolding terms limit
 slice_bounds-is_open-end-in-loop-s c = sym c.requires.0.whole.reduced.long
 
+pub at_right-d-requires : goal.at_right-d-requires
+at_right-d-requires c = (asked_at c.requires.0 c.loop-s.invariant.0.two c.if-n-s-ne0.false (omega arith)).degrees
+
 pub is_open-requires : goal.is_open-requires
-is_open-requires c = (asked_at c.requires.0 c.loop-s.invariant.0.two c.if-n-s-ne0.false (omega arith), c.requires.1, c.loop-s.invariant.2)
+is_open-requires c =
+    let a = c.requires.0 in
+    let e = c.at_right-d.ensures.0 in
+    (record { modulus = a.modulus; degrees = c.at_right-d.result.fit; whole = rw e a.whole }, rw e c.requires.1, c.loop-s.invariant.2)
 
 -- the quick question says no
 pub loop-s-preserved-then-not-is_open : goal.loop-s-preserved-then-not-is_open
-loop-s-preserved-then-not-is_open c = (passed_missed c.loop-s.invariant.0 c.if-n-s-ne0.false (none-at c.requires.0 c.loop-s.invariant.0.two c.if-n-s-ne0.false (omega arith) c.is_open.ensures c.if-not-is_open.true), omega arith, c.is_open.ensures.room)
+loop-s-preserved-then-not-is_open c =
+    let (n, r, s) = c.at_right-d.ensures in
+    (passed_missed c.loop-s.invariant.0 c.if-n-s-ne0.false (none-at c.requires.0 c.loop-s.invariant.0.two c.if-n-s-ne0.false (omega arith) (rw (r, s) at c.is_open.ensures) c.if-not-is_open.true), omega arith, c.is_open.ensures.room)
 
 pub slice_bounds-split_open-end : goal.slice_bounds-split_open-end
 unfolding words terms limit
 slice_bounds-split_open-end c = sym c.is_open.ensures.room.long
 
 pub split_open-requires : goal.split_open-requires
-split_open-requires c = open_at c.requires.0 c.loop-s.invariant.0.two c.if-n-s-ne0.false (omega arith) c.is_open.ensures
+split_open-requires c = let (n, r, s) = c.at_right-d.ensures in rw (n, r, s) (open_at c.requires.0 c.loop-s.invariant.0.two c.if-n-s-ne0.false (omega arith) (rw (r, s) at c.is_open.ensures))
 
 pub returns-in-Ok : goal.returns-in-Ok
-returns-in-Ok c = passed_hit c.loop-s.invariant.0 c.if-n-s-ne0.false (asked_at c.requires.0 c.loop-s.invariant.0.two c.if-n-s-ne0.false (omega arith)).degrees (hit c.in-Ok.ensures)
+returns-in-Ok c =
+    let (n, r, s) = c.at_right-d.ensures in
+    passed_hit c.loop-s.invariant.0 c.if-n-s-ne0.false (rw (n, r, s) at c.at_right-d.result.fit) (hit (rw (r, s) at c.in-Ok.ensures))
 
 -- it left a pair open, and there is none
 pub loop-s-preserved : goal.loop-s-preserved
-loop-s-preserved c = (passed_missed c.loop-s.invariant.0 c.if-n-s-ne0.false (miss _ (coprime-at c.requires.0 c.loop-s.invariant.0.two c.if-n-s-ne0.false (omega arith)) c.in_default.ensures), omega arith, c.is_open.ensures.room)
+loop-s-preserved c =
+    let (n, r, s) = c.at_right-d.ensures in
+    (passed_missed c.loop-s.invariant.0 c.if-n-s-ne0.false (miss _ (coprime-at c.requires.0 c.loop-s.invariant.0.two c.if-n-s-ne0.false (omega arith)) (rw (r, s) at c.in_default.ensures)), omega arith, c.is_open.ensures.room)
 
 pub returns : goal.returns
 returns c = passed-all c.loop-s.invariant.0 (omega arith) (omega arith)
