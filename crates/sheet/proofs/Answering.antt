@@ -8,11 +8,11 @@
 --   write_short, write_refused, write_made              each return of the writer
 --   filled-used, filled_rising, filled-composes         what the steps of the reader ask of a filled area
 --   records_stopped, rest_stopped, sheet_taken          what the reader has taken, by its checks
---   read_short, read_refused, read_taken                each return of the reader
+--   read_short, read_refused                            each refusal of the reader
 use Rattle.std.specs.Prelude.{Result, Ok, Err}
 use Rattle.std.specs.Result.{is_err}
 use mathlib.Core.Path.{◌≡◌, refl, sym, ap, ap₂, ◌∙◌}
-use mathlib.Core.Bool.{true, false, false≢true}
+use mathlib.Core.Bool.{true, false≢true}
 use mathlib.Core.List.{List, ◌++◌}
 use Prim.Native.Nat.{ℕ, ◌≤◌, ◌<◌}
 use borrow.Author.Tests.{ltb-false, le-ltb}
@@ -190,8 +190,3 @@ module _ (b xs : List ℕ) where
     pub read_refused : {x : Result Sheet Refusal} → TakesSheet b xs zs x → is_err x ≡ true → {ys : List ℕ} → ys ≡ cleared zs → ReadsSheet b xs ys (contents_of x)
     read_refused (steps.refused e a q) h z = of.refused fits e (z ∙ a) (ap contents_of q)
     read_refused (steps.taken e a q) h z = absurd (false≢true (sym (ap is_err q) ∙ h))
-
-    -- none
-    pub read_taken : {x : Result Sheet Refusal} → TakesSheet b xs zs x → is_err x ≡ false → ReadsSheet b xs zs (contents_of x)
-    read_taken (steps.refused e a q) h = absurd (false≢true (sym h ∙ ap is_err q))
-    read_taken (steps.taken e a q) h = of.taken fits e a (ap contents_of q)

@@ -5,13 +5,12 @@
 --   each_done                at the end
 --   each_at, each_all        all pass exactly if each does
 --   each_ext                 equal checks, equal outcomes
---   later_unused, later_used     whether a place that is not the first is where it may be
 --   order_ext, parts_ext, product_ext     what depends on the used places, and on their polynomials, only
-use mathlib.Core.Path.{◌≡◌, refl, sym, ap, ap₂, ◌∙◌}
-use mathlib.Core.Bool.{Bool, true, false, not, cond, ◌||◌}
+use mathlib.Core.Path.{◌≡◌, refl, sym, ap, ap₂}
+use mathlib.Core.Bool.{Bool, not, cond, ◌||◌}
 use mathlib.Core.Logic.{⊎_elim}
 use mathlib.Core.List.{List, ◌∷◌}
-use Prim.Native.Nat.{ℕ, zero, suc, ◌+◌, ◌-◌, ◌≤◌, ◌<◌}
+use Prim.Native.Nat.{ℕ, zero, suc, ◌+◌, ◌≤◌, ◌<◌}
 use native.Mathlib.Nat as N
 use native.Mathlib.Omega.{arith}
 use native.Mathlib.Numerals.{add-one}
@@ -65,18 +64,6 @@ each_ext : (n : ℕ) (c d : ℕ → Outcome) → ((i : ℕ) → i < n → c i �
 unfolding each
 each_ext zero c d e = refl
 each_ext (suc n) c d e = ap₂ ◌then◌ (each_ext n c d (λ i l. e i (omega arith))) (e n (omega arith))
-
--- a place that is not the first: one that is not used may be anywhere, and a used one only after a used one
-module _ (u : ℕ → Bool) (i : ℕ) (later : ¬ (i ≡ 0)) {a : Bool} (a-is : a ≡ u i) where
-  before : (k : ℕ) → ¬ (k ≡ 0) → in_order u k ≡ (not (u k) || u (k - 1))
-  before zero h = absurd (h refl)
-  before (suc k) h = let e : suc k - 1 ≡ k = omega arith in rw e refl
-
-  pub later_unused : a ≡ false → true ≡ in_order u i
-  later_unused t = rw (before i later) (simp (← a-is, t))
-
-  pub later_used : a ≡ true → {b : Bool} → b ≡ u (i - 1) → b ≡ in_order u i
-  later_used t e = rw (before i later) (simp (← a-is, t) e)
 
 pub order_ext : (u v : ℕ → Bool) → ((i : ℕ) → i < most_parts → u i ≡ v i) → check_order u ≡ check_order v
 unfolding check_order

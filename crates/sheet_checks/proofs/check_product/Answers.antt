@@ -1,6 +1,5 @@
 use mathlib.Core.Path.{sym, ap, ◌∙◌}
 use Prim.Native.Nat.{ℕ, ◌+◌, ◌*◌}
-use native.Mathlib.Nat as N
 use native.Mathlib.Omega.{arith}
 use Rattle.area.specs.Area.{most_parts}
 use Rattle.algebra.specs.Polynomial.{limit}
@@ -11,21 +10,12 @@ pub loop-i-init : goal.loop-i-init
 unfolding limit
 loop-i-init c = (product-none _, omega arith)
 
-pub overflow_mul-n : goal.overflow_mul-n
-unfolding limit
-overflow_mul-n c = omega (arith, N.mul-le-mul c.factor-n.ensures.2 c.loop-i.invariant.1)
-
 pub returns-then-n-gt-LIMIT : goal.returns-then-n-gt-LIMIT
 unfolding most_parts limit
 returns-then-n-gt-LIMIT c =
     let l = c.loop-i in
     let f = c.factor-n in
     rw c.into.ensures (above-product _ c.requires.1 (l.i + 1) (omega arith) (ap (λ (x : ℕ). f.result * x) l.invariant.0 ∙ sym f.ensures.0) c.if-n-gt-LIMIT.true)
-
-pub loop-i-preserved : goal.loop-i-preserved
-unfolding most_parts limit
-loop-i-preserved c =
-    (ap (λ (x : ℕ). c.factor-n.result * x) c.loop-i.invariant.0 ∙ sym c.factor-n.ensures.0, omega arith)
 
 pub returns : goal.returns
 unfolding most_parts

@@ -4,7 +4,7 @@ use borrow.Author.Rules.{rules}
 use Rattle.std.specs.Prelude.{Err}
 use Rattle.algebra.specs.Polynomial.{limit, terms}
 use Rattle.area.specs.Area.{most_parts, area_words}
-use Rattle.sheet.proofs.Answering.{room, read_short, read_refused, read_taken}
+use Rattle.sheet.proofs.Answering.{room, read_short, read_refused}
 use Rattle.sheet_reader.proofs.read.Goals as goal
 
 -- No. 11
@@ -24,7 +24,3 @@ clear-requires c = let (x, y) = room _ _ (sym c.check_room.ensures ∙ c.in_ok-c
 pub returns-then-is_err : goal.returns-then-is_err
 returns-then-is_err c =
     read_refused _ _ (sym c.check_room.ensures ∙ c.in_ok-check_room.was) c.take-taken.ensures (sym c.is_err.ensures.value ∙ c.if-is_err.true) c.clear.ensures
-
-pub returns-else-is_err : goal.returns-else-is_err
-returns-else-is_err c =
-    read_taken _ _ (sym c.check_room.ensures ∙ c.in_ok-check_room.was) c.take-taken.ensures (sym c.is_err.ensures.value ∙ c.if-is_err.false)

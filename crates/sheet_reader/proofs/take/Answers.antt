@@ -1,10 +1,7 @@
-use mathlib.Core.Path.{◌≡◌, sym, subst, ◌∙◌}
-use native.Mathlib.Omega.{arith}
+use mathlib.Core.Path.{◌≡◌, sym, ◌∙◌}
 use borrow.Author.Rules.{rules}
 use Rattle.std.specs.Prelude.{Err}
-use Rattle.refusal.specs.Refusal.{Outcome}
 use Rattle.polynomial.proofs.Acceptance.{accepted-modulus}
-use Rattle.sheet.specs.Steps.{Taken}
 use Rattle.sheet.proofs.Answering.{records_stopped, taken-used, taken_rising, rest_stopped, taken-composes, sheet_taken}
 use Rattle.sheet_reader.proofs.take.Goals as goal
 

@@ -1,11 +1,9 @@
 use mathlib.Core.Path.{ap, ◌∙◌}
 use mathlib.Core.List.{List}
 use Prim.Native.Nat.{ℕ}
-use native.Mathlib.Omega.{arith}
 use lib.ListN.{length}
 use Rattle.refusal.specs.declared.Concerns.TheVariants.{Place}
 use Rattle.polynomial.specs.Checks.{check_polynomial}
-use Rattle.area.specs.Area.{most_parts}
 use Rattle.sheet.specs.Checks.{check_part}
 use Rattle.sheet.proofs.Handing.{place-long, empty_unused, handed-used, handed-place}
 use Rattle.sheet_writer.proofs.check_part.Goals as goal
@@ -13,10 +11,6 @@ use Rattle.sheet_writer.proofs.check_part.Goals as goal
 pub returns-then-p-eq0 : goal.returns-then-p-eq0
 unfolding check_part
 returns-then-p-eq0 c = let p = c.requires in simp (empty_unused _ _ p.0 p.1 c.part-p.ensures c.if-p-eq0.true)
-
-pub overflow_cast-i : goal.overflow_cast-i
-unfolding most_parts
-overflow_cast-i c = omega arith
 
 pub check_polynomial-requires : goal.check_polynomial-requires
 check_polynomial-requires c =

@@ -1,6 +1,5 @@
 use native.Mathlib.Omega.{arith}
-use Rattle.area.specs.Area.{place, most_parts, area_words}
-use Rattle.algebra.specs.Polynomial.{limit, terms}
+use Rattle.area.specs.Area.{place, most_parts}
 use Rattle.record.specs.Record.{record_bytes}
 use Rattle.sheet.specs.Sheet.{sheet_bytes, recorded, sheet_of}
 use Rattle.sheet.specs.Steps.{put_record}
