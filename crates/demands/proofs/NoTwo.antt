@@ -22,7 +22,7 @@ use Rattle.refusal.specs.declared.Concerns.TheVariants.{Neither, First, Second, 
 use Rattle.refusal.specs.declared.Reason.{Reason}
 use Rattle.refusal.specs.declared.Reason.TheVariants as reason
 use Rattle.refusal.specs.Refusal.{Outcome}
-use Rattle.refusal.specs.Refusal.{Answered, Refused}
+use Rattle.refusal.specs.Refusal.{Answered}
 use Rattle.refusal.proofs.Outcomes.{never}
 use Rattle.polynomial.specs.Moduli.{machine_words, modulus, smallest, largest, check_modulus}
 use Rattle.polynomial.specs.Checks.{offending, check_coefficients, check_degree, check_leading, check_polynomial, check_one, check_two, check_pair}

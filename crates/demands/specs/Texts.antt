@@ -8,7 +8,6 @@ use Rattle.std.specs.Prelude.{◌≡◌, ◌⊎◌, List, ℕ, Ok, Err}
 use Rattle.algebra.specs.Polynomial.{Same}
 use Rattle.refusal.specs.Refusal.{number}
 use Rattle.refusal.specs.Refusal.{Outcome}
-use Rattle.refusal.specs.Refusal.{Answered, Refused}
 use Rattle.polynomial.specs.Checks.{Accepted}
 use Rattle.polynomial.specs.Answers.{Answer}
 use Rattle.text.specs.Grammar.{most_deep}

@@ -6,7 +6,7 @@ use mathlib.Core.Path.{◌≡◌, refl, ◌∙◌, ap}
 use mathlib.Core.List.{List, [], ◌∷◌}
 use Prim.Native.Nat.{ℕ}
 use lib.ListN.{replicate}
-use Rattle.std.specs.Prelude.{Result, Ok, Err, Option, Some, None}
+use Rattle.std.specs.Prelude.{Result, Ok, Err}
 use Rattle.std.specs.Result.{result_err, result_unwrap_or, ResultUnwrapsOrElse}
 use Rattle.algebra.specs.Polynomial.{terms}
 use Rattle.refusal.specs.Refusal.{Outcome}
@@ -15,7 +15,6 @@ use Rattle.polynomial.specs.declared.Pair.{Pair}
 use Rattle.polynomial.specs.Answers.{Answer, Parts, answer_of, parts_of, nothing, no_parts, zero_pair}
 use Rattle.record.specs.declared.Record.{Record}
 use Rattle.record.specs.Record.{checked, checked_of, no_record, zeros, Checked}
-use Rattle.pair.specs.Asking.{verdict_of, QuickOf, Verdict}
 use Rattle.change.specs.declared.Change.{Change}
 use Rattle.change.specs.Changing.{Made, made_of, identity}
 use Rattle.chain.specs.declared.Numbers as chain
@@ -27,7 +26,7 @@ use Rattle.sheet.specs.Answers.{unread, contents_of, ReadsSheet, WritesSheet}
 use Rattle.sheet.specs.Answers as sheet-zeros
 use Rattle.text.specs.Answers.{written_of, WritesText}
 use Rattle.desk.specs.declared.Refused as face
-use Rattle.desk.specs.Face.{told, told_by, CheckedAs, AnswersAs, PartsAs, MadeAs, QuickAs, ChainedAs, NumberedAs, ChosenAs, SheetAs, ReadAs, TextAs}
+use Rattle.desk.specs.Face.{told, told_by, CheckedAs, AnswersAs, PartsAs, MadeAs, ChainedAs, NumberedAs, ChosenAs, SheetAs, ReadAs, TextAs}
 
 module _ {o : face.Refused} where
   pub checked_told : {b : List ℕ} (x : Result Record Refusal) {c : Record} → checked_of x ≡ checked b → ResultUnwrapsOrElse x (λ c. c ≡ zeros) c

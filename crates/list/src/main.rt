@@ -51,9 +51,7 @@ fn run(rt: &HostRuntime, lister: &Lister, buf: &mut [u8], out: &mut [u8]) -> Res
 
 fn main(rt: HostRuntime) {
     let table = Table::new();
-    let lister = Lister {
-        table: &table,
-    };
+    let lister = Lister { table: &table };
     let mut buf = [0u8; BUFFER];
     let mut out = [0u8; listing::LINES];
     let _ = run(&rt, &lister, &mut buf, &mut out);

@@ -1,4 +1,3 @@
-use native.Mathlib.Omega.{arith}
 use Rattle.round.proofs.Asking.{chainable, left-coprime, right_asked}
 use Rattle.round.proofs.Rounds.{hit, miss}
 use Rattle.ending.proofs.Ends.{missed, splits-on, ends_there}
