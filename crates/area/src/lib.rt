@@ -21,7 +21,7 @@ pub fn start(i: usize) -> usize
     i * TERMS
 }
 
-// Writes place i, and no other word.
+// Writes place i, and no other word. That there is room is a clause and no array type: an area may be longer than its words.
 pub fn put(area: &mut [u32], i: usize, p: &[u32])
     requires { (i < most_parts) × (area_words ≤ length area.old) × (length p.now ≡ terms) }
     ensures { area.new ≡ put_at area.old i p.now }

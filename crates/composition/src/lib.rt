@@ -9,7 +9,7 @@ ghost use Rattle.composition.specs.Composition.{composition, Composable, Room};
 use polynomial::{Coefficients, TERMS};
 use reciprocal::Divisor;
 
-// One step for a line h, as in every change: two products a place, and no loop over h.
+// One step for a line h, as in every change: two products a place, and no loop over h, for speed.
 fn line_step(p: &mut [u32], c: u32, h: &[u32], d: usize, m: Divisor)
     requires { Room 1 d h.now p.old }
     ensures { p.new ≡ reduced m.number (plus (c ∷ []) (times h.now p.old)) }

@@ -12,7 +12,7 @@ use change::Change;
 use polynomial::{TERMS, ZEROS};
 use refusal::Refusal;
 
-// A refusal in 01's numbers: number 0 if the request was answered; polynomial 0 neither, 1 the first, 2 the second, 16 + i the one in
+// A refusal in 01's numbers, for C: number 0 if the request was answered; polynomial 0 neither, 1 the first, 2 the second, 16 + i the one in
 // place i of a sheet.
 #[repr(C)]
 #[derive(Clone, Copy, Default)]

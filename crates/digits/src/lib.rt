@@ -7,7 +7,8 @@ ghost use Rattle.digits.specs.Digits.{most_digits, decimal, Put};
 // The most digits that a number takes.
 pub const DIGITS: usize = 10;
 
-// n's decimal digits into out from index at on; answers the index after them.
+// n's decimal digits into out from index at on; answers the index after them. The two stay apart: `Put` says of them in a word what
+// a writer does, and of a struct's fields it would be longer.
 pub fn digits(n: u32, out: &mut [u8], at: usize) -> usize
     requires { at + most_digits ≤ length out.old }
     ensures { Put out.old at (decimal n) most_digits out.new result }

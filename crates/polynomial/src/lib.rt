@@ -130,7 +130,8 @@ pub fn check_modulus(m: u64) -> Result<(), Refusal>
     Ok(())
 }
 
-// Nos. 2, 3 and 4 of a polynomial, whose degree the caller has found.
+// Nos. 2, 3 and 4 of a polynomial, whose degree the caller has found. The two stay apart: an operation is handed coefficients alone,
+// and what holds of them below it is over the modulus.
 pub fn check_polynomial(concerns: Concerns, m: u64, f: &[u32], degree: usize) -> Result<(), Refusal>
     requires { Measured degree f.now }
     ensures { result ≡ check_polynomial concerns m f.now }

@@ -11,7 +11,8 @@ ghost use Rattle.report.specs.Report.{Expanded, HighestAt, LeftReport};
 use polynomial::{Coefficients, PairDegrees};
 use reciprocal::Divisor;
 
-// The lowest n digits of p, constants or not, one by one; above them the quotient.
+// The lowest n digits of p, constants or not, one by one; above them the quotient. Not one with the `digits` of `left`, which end at
+// the first that is no constant and say so: these are all taken.
 fn each_digit(p: &mut [u32], h: &[u32], n: usize, s: usize, m: Divisor)
     requires { DivisionAsked m.number s h.now p.old × (n * s ≤ length p.old) }
     ensures { Expanded m.number h.now s n p.old p.new }
@@ -60,7 +61,8 @@ fn highest(p: &[u32], r: usize, s: usize) -> usize
     0
 }
 
-// The highest power at which f and g(h) differ for the forced left part g, with the degrees d; 0 if f = g(h). No digit ends it early:
+// The highest power at which f and g(h) differ for the forced left part g, with the degrees d; 0, and no Option, if f = g(h), as
+// `LeftReport` says it. No digit ends it early:
 // the highest that is no constant is wanted, and it is found last.
 pub fn report(f: Coefficients, h: Coefficients, d: PairDegrees, m: Divisor) -> usize
     requires { LeftAsked m.number d.whole d.left d.right f h }
