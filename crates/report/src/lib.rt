@@ -61,9 +61,8 @@ fn highest(p: &[u32], r: usize, s: usize) -> usize
     0
 }
 
-// The highest power at which f and g(h) differ for the forced left part g, with the degrees d; 0, and no Option, if f = g(h), as
-// `LeftReport` says it. No digit ends it early:
-// the highest that is no constant is wanted, and it is found last.
+// The highest power at which f and g(h) differ for the forced left part g, with the degrees d; 0, and no Option, if f = g(h),
+// as `LeftReport` says it. No digit ends it early: the highest that is no constant is wanted, and it is found last.
 pub fn report(f: Coefficients, h: Coefficients, d: PairDegrees, m: Divisor) -> usize
     requires { LeftAsked m.number d.whole d.left d.right f h }
     ensures { LeftReport m.number f d.left d.right h result }
