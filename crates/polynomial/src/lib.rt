@@ -87,7 +87,12 @@ fn highest(f: &[u32]) -> Option<usize>
     ensures none { IfNone result ((i : ℕ) → i < length f.now → slice_index f.now i ≡ 0) }
     ensures some { IfSome result (λ k. (k < length f.now) × (slice_index f.now k ≢ 0) × ((i : ℕ) → k < i → i < length f.now → slice_index f.now i ≡ 0)) }
 {
-    f.iter().rposition(|c| *c != 0)
+    for d in (0..f.len()).rev() {
+        if f[d] != 0 {
+            return Some(d);
+        }
+    }
+    None
 }
 
 // The largest power whose coefficient is not zero, and 0 if there is none.
