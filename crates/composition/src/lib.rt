@@ -14,8 +14,8 @@ fn line_step(p: &mut [u32], c: u32, h: &[u32], d: usize, m: Divisor)
     requires { Room 1 d h.now p.old }
     ensures { p.new ≡ reduced m.number (plus (c ∷ []) (times h.now p.old)) }
 {
-    for k in (1..d + 1).rev() {
-        p[k] = inner::two_products(h[0], p[k], h[1], p[k - 1], m);
+    for j in (0..d).rev() {
+        p[j + 1] = inner::two_products(h[0], p[j + 1], h[1], p[j], m);
     }
     p[0] = inner::two_products(h[0], p[0], c, 1, m);
 }
@@ -29,7 +29,8 @@ pub fn step(p: &mut [u32], c: u32, h: &[u32], s: usize, d: usize, m: Divisor)
         line_step(p, c, h, d, m);
         return;
     }
-    for k in (1..d + 1).rev() {
+    for j in (0..d).rev() {
+        let k = j + 1;
         p[k] = inner::inner_product(h, p, k, 0, k.min(s) + 1, m);
     }
     p[0] = inner::two_products(h[0], p[0], c, 1, m);
