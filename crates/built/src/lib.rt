@@ -56,12 +56,16 @@ impl Built {
     }
 
     // a + k * b.
-    pub fn combine(a: Option<Built>, b: Option<Built>, k: u32, m: Divisor) -> Option<Built>
-        ensures { Joins m.number (λ x y. plus x (scaled k y)) a b result }
+    pub fn combine(a: &Option<Built>, b: &Option<Built>, k: u32, m: Divisor) -> Option<Built>
+        ensures { Joins m.number (λ x y. plus x (scaled k y)) a.now b.now result }
     {
-        let x = a?;
-        let y = b?;
-        Some(x.mixed(&y, k, m))
+        let Some(x) = a else {
+            return None;
+        };
+        let Some(y) = b else {
+            return None;
+        };
+        Some(x.mixed(y, k, m))
     }
 
     // The coefficient of x^k in the product with y.
@@ -110,12 +114,16 @@ impl Built {
     }
 
     // a * b.
-    pub fn multiply(a: Option<Built>, b: Option<Built>, m: Divisor) -> Option<Built>
-        ensures { Joins m.number times a b result }
+    pub fn multiply(a: &Option<Built>, b: &Option<Built>, m: Divisor) -> Option<Built>
+        ensures { Joins m.number times a.now b.now result }
     {
-        let x = a?;
-        let y = b?;
-        x.whole(&y, m)
+        let Some(x) = a else {
+            return None;
+        };
+        let Some(y) = b else {
+            return None;
+        };
+        x.whole(y, m)
     }
 
     // Whether it is a single term whose p-th power is within the limit.
@@ -141,11 +149,13 @@ impl Built {
     }
 
     // a^p. The power of a single term is written at once.
-    pub fn raise(a: Option<Built>, p: usize, m: Divisor) -> Option<Built>
+    pub fn raise(a: &Option<Built>, p: usize, m: Divisor) -> Option<Built>
         requires { p ≤ limit }
-        ensures { Raises m.number p a result }
+        ensures { Raises m.number p a.now result }
     {
-        let x = a?;
+        let Some(x) = a else {
+            return None;
+        };
         if x.shifts(p) {
             let c = residue::power(x.coefficients[x.degree], p, m);
             return Some(Built::single(u64::from(c), x.degree * p, m));

@@ -19,7 +19,6 @@ use Rattle.built.specs.Built as built-specs
 use Rattle.built.proofs.Joining.{as_single, as_plus, as_less, as_times, as_scaled, as_power}
 use Rattle.phrase.specs.declared.Fault.{Fault}
 use Rattle.phrase.specs.declared.Fault.TheVariants.{Spelling, Depth}
-use Rattle.phrase.specs.declared.Found.{Found}
 use Rattle.std.specs.Prelude.{Option, Some, None, Result, Ok, Err}
 use Rattle.numeral.specs.Counting.{Counted, Uncounted, ended, other, long, CountsPower}
 use Rattle.text.specs.Grammar.{Sum, Product, Factor, Base, term, negative, add, subtract, single, multiply, plain, raised, number, unknown, bracket, most_deep}
@@ -199,9 +198,9 @@ module _ (m : ℕ) (s : List ℕ) (at d : ℕ) where
       go (yes l) = ap verdict (run_at (begin st) s at l ∙ ap (λ q. run most_deep q (drop (at + 1) s)) (same_step most_deep st (get_or s at 0) (n l)) ∙ sym (run_at (expect st fresh) s at l))
       go (no l) = ap verdict (run_out (begin st) s at (omega arith)) ∙ sym (ap verdict (run_out (expect st fresh) s at (omega arith)))
 
-  pub sum-plain : (r : Result Found Fault) → (at < length s → get_or s at 0 ≡ 45 → ⊥) → Reads a_product a_product m s at d r → Reads a_sum a_product m s at d r
+  pub sum-plain : (r : Result ℕ Fault) (v : Option Built) → (at < length s → get_or s at 0 ≡ 45 → ⊥) → Reads a_product a_product m s at d r v → Reads a_sum a_product m s at d r v
   unfolding meaning Within
-  sum-plain (Ok r) n c =
+  sum-plain (Ok k) v n c =
       record {
         tree = term c.tree;
         ahead = c.ahead;
@@ -210,7 +209,7 @@ module _ (m : ℕ) (s : List ℕ) (at d : ℕ) where
         leads = λ st f e. run_at (begin st) s at (omega (arith, c.ahead, c.inside)) ∙ ap (λ q. run most_deep q (drop (at + 1) s)) (same_step most_deep st (get_or s at 0) (n (omega (arith, c.ahead, c.inside)))) ∙ sym (run_at (expect st fresh) s at (omega (arith, c.ahead, c.inside))) ∙ c.leads st fresh e;
         ends = λ st f z. c.ends st fresh z;
       }
-  sum-plain (Err y) n x = λ st f e. plain-start n st ∙ x st fresh e
+  sum-plain (Err y) v n x = λ st f e. plain-start n st ∙ x st fresh e
 
   module _ (l : at < length s) (b : get_or s at 0 ≡ 45) where
     minus-run : (st : List Frame) → run most_deep (begin st) (drop at s) ≡ run most_deep (expect st (frame minus none)) (drop (at + 1) s)

@@ -6,7 +6,7 @@
 --   told e                   a fault, as the states tell it
 --   reason_of e              why a text with this fault is refused
 --   Fails k s at d e         the text from `at` on has the fault e
---   Reads k j m s at d r     one or the other, which r is
+--   Reads k j m s at d r v   one or the other, which r is; v is what was built
 --   SignAt s k r             the sign at k, or none stands there
 --   Adds m sign a b v        v is a + b or a - b
 use Rattle.std.specs.Prelude.{◌≡◌, ◌⊎◌, Option, Some, None, Result, Ok, Err, List, ℕ, ◌-◌, ◌≤◌, ◌<◌, length, drop, get_or}
@@ -15,7 +15,6 @@ use Rattle.algebra.specs.Polynomial.{plus, scaled}
 use Rattle.built.specs.Built.{BuiltAs, Joins}
 use Rattle.phrase.specs.declared.Fault.{Fault}
 use Rattle.phrase.specs.declared.Fault.TheVariants.{Spelling, Depth}
-use Rattle.phrase.specs.declared.Found.{Found}
 use Rattle.refusal.specs.declared.Reason.{Reason}
 use Rattle.refusal.specs.declared.Reason.TheVariants as reason
 use Rattle.text.specs.Grammar.{Sum, Product, Factor, Base, plain, most_deep, plus_byte, minus_byte, times_byte, power_byte, close_byte}
@@ -92,9 +91,9 @@ abbrev pub Fails : Phrase → List ℕ → ℕ → ℕ → Fault → Type 0
 Fails k s at d e = (st : List Frame) (f : Frame) → length st ≡ d → verdict (run most_deep (start k st f) (drop at s)) ≡ bad (told e)
 
 -- by what is handed on
-abbrev pub Reads : Phrase → Phrase → ℕ → List ℕ → ℕ → ℕ → Result Found Fault → Type 0
-Reads k j m s at d (Ok r) = Done k j m s at d r.next r.built
-Reads k j m s at d (Err e) = Fails k s at d e
+abbrev pub Reads : Phrase → Phrase → ℕ → List ℕ → ℕ → ℕ → Result ℕ Fault → Option Built → Type 0
+Reads k j m s at d (Ok next) v = Done k j m s at d next v
+Reads k j m s at d (Err e) v = Fails k s at d e
 
 -- the sign at k, or none stands there
 abbrev pub SignAt : List ℕ → ℕ → Option ℕ → Type 0

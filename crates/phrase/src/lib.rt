@@ -1,9 +1,10 @@
 // What the readers of a text hand on, and their steps that call no other reader.
 #![tactic(auto)]
 
-ghost use Rattle.std.specs.Prelude.{◌≡◌, true, false, List, ℕ, ◌+◌, ◌<◌, Some, length, get_or};
+ghost use Rattle.std.specs.Prelude.{◌≡◌, true, false, List, ℕ, ◌+◌, ◌<◌, Option, Some, length, get_or};
 ghost use Rattle.refusal.specs.Refusal.{naming_none};
 ghost use Rattle.text.specs.Grammar.{most_deep, open_byte, minus_byte, x_byte};
+ghost use Rattle.built.specs.declared.Built.{Built};
 ghost use Rattle.phrase.specs.Reading.{Phrase, Done, reason_of, Reads, SignAt, Adds};
 
 use built::Built;
@@ -29,13 +30,6 @@ impl From<Fault> for Refusal {
     }
 }
 
-// What a reader has found: the next place, and what was built, or none.
-#[derive(Drop)]
-pub struct Found {
-    pub next: usize,
-    pub built: Option<Built>,
-}
-
 // Whether b stands at `at`.
 pub fn stands(s: &[u8], at: usize, b: u8) -> bool
     ensures yes { result ≡ true → (at < length s.now) × (get_or s.now at 0 ≡ b) }
@@ -55,48 +49,41 @@ pub fn sign(s: &[u8], at: usize) -> Option<u8>
 }
 
 // A number, where neither a bracket nor x stands.
-pub fn numbered(s: &[u8], at: usize, m: Divisor) -> Result<Found, Fault>
+pub fn numbered(s: &[u8], at: usize, m: Divisor, built: &mut Option<Built>) -> Result<usize, Fault>
     requires bracket { at < length s.now → get_or s.now at 0 ≡ open_byte → ⊥ }
     requires unknown { at < length s.now → get_or s.now at 0 ≡ x_byte → ⊥ }
-    ensures { (d : ℕ) → Reads Phrase.a_base Phrase.a_base m.number s.now at d result }
+    ensures { (d : ℕ) → Reads Phrase.a_base Phrase.a_base m.number s.now at d result built.new }
 {
     let n = numeral::number(s, at).ok_or(Fault::Spelling)?;
-    Ok(Found {
-        next: n.next,
-        built: Some(Built::single(n.value, 0, m)),
-    })
+    *built = Some(Built::single(n.value, 0, m));
+    Ok(n.next)
 }
 
-// The closing bracket of the sum r that stands behind an open one.
-pub fn closed(s: &[u8], r: Found) -> Result<Found, Fault>
-    ensures { (m at d : ℕ) → at < length s.now → get_or s.now at 0 ≡ open_byte → d < most_deep → Done Phrase.a_sum Phrase.a_sum m s.now (at + 1) (d + 1) r.next r.built → Reads Phrase.a_base Phrase.a_base m s.now at d result }
+// The closing bracket of the sum, read to k, that stands behind an open one.
+pub fn closed(s: &[u8], k: usize) -> Result<usize, Fault>
+    ensures { (m at d : ℕ) (v : Option Built) → at < length s.now → get_or s.now at 0 ≡ open_byte → d < most_deep → Done Phrase.a_sum Phrase.a_sum m s.now (at + 1) (d + 1) k v → Reads Phrase.a_base Phrase.a_base m s.now at d result v }
 {
-    if !stands(s, r.next, b')') {
+    if !stands(s, k, b')') {
         return Err(Fault::Spelling);
     }
-    Ok(Found {
-        next: r.next + 1,
-        built: r.built,
-    })
+    Ok(k + 1)
 }
 
-// The power of the base r, if one is written.
-pub fn raised(s: &[u8], r: Found, m: Divisor) -> Result<Found, Fault>
-    ensures { (at d : ℕ) → Done Phrase.a_base Phrase.a_base m.number s.now at d r.next r.built → Reads Phrase.a_factor Phrase.a_factor m.number s.now at d result }
+// The power of the base, read to k, if one is written.
+pub fn raised(s: &[u8], k: usize, m: Divisor, built: &mut Option<Built>) -> Result<usize, Fault>
+    ensures { (at d : ℕ) → Done Phrase.a_base Phrase.a_base m.number s.now at d k built.old → Reads Phrase.a_factor Phrase.a_factor m.number s.now at d result built.new }
 {
-    if !stands(s, r.next, b'^') {
-        return Ok(r);
+    if !stands(s, k, b'^') {
+        return Ok(k);
     }
-    let e = numeral::exponent(s, r.next + 1).ok_or(Fault::Spelling)?;
-    Ok(Found {
-        next: e.next,
-        built: Built::raise(r.built, e.value as usize, m),
-    })
+    let e = numeral::exponent(s, k + 1).ok_or(Fault::Spelling)?;
+    *built = Built::raise(built, e.value as usize, m);
+    Ok(e.next)
 }
 
 // a + b, or a - b, by the sign.
-pub fn added(a: Option<Built>, b: Option<Built>, sign: u8, m: Divisor) -> Option<Built>
-    ensures { Adds m.number sign a b result }
+pub fn added(a: &Option<Built>, b: &Option<Built>, sign: u8, m: Divisor) -> Option<Built>
+    ensures { Adds m.number sign a.now b.now result }
 {
     if sign == b'+' {
         return Built::combine(a, b, 1, m);
@@ -105,11 +92,8 @@ pub fn added(a: Option<Built>, b: Option<Built>, sign: u8, m: Divisor) -> Option
 }
 
 // The first product of a sum, with the minus that stands before it.
-pub fn negated(r: Found, m: Divisor) -> Found
-    ensures { (s : List ℕ) (at d : ℕ) → at < length s → get_or s at 0 ≡ minus_byte → Done Phrase.a_product Phrase.a_product m.number s (at + 1) d r.next r.built → Done Phrase.a_sum Phrase.a_product m.number s at d result.next result.built }
+pub fn negated(product: &Option<Built>, m: Divisor) -> Option<Built>
+    ensures { (s : List ℕ) (at d k : ℕ) → at < length s → get_or s at 0 ≡ minus_byte → Done Phrase.a_product Phrase.a_product m.number s (at + 1) d k product.now → Done Phrase.a_sum Phrase.a_product m.number s at d k result }
 {
-    Found {
-        next: r.next,
-        built: added(Some(Built::single(0, 0, m)), r.built, b'-', m),
-    }
+    added(&Some(Built::single(0, 0, m)), product, b'-', m)
 }

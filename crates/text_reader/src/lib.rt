@@ -21,11 +21,12 @@ pub fn read(m: u32, text: &[u8]) -> Result<Coefficients, Refusal>
     if text.is_empty() || text.len() > BYTES {
         return Err(Reason::Spelling.into());
     }
-    let r = sums::sum(text, 0, 0, Divisor::new(m))?;
-    if r.next < text.len() {
+    let mut built = None;
+    let next = sums::sum(text, 0, 0, Divisor::new(m), &mut built)?;
+    if next < text.len() {
         return Err(Reason::Spelling.into());
     }
-    let v = r.built.ok_or(Reason::Limit)?;
+    let v = built.ok_or(Reason::Limit)?;
     polynomial::check_polynomial(Concerns::First, m, &v.coefficients, v.degree)?;
     Ok(v.coefficients)
 }

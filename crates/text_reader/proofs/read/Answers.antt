@@ -18,38 +18,38 @@ returns-in_err-check_modulus c =
 pub new-requires : goal.new-requires
 new-requires c = accepted-modulus (sym c.check_modulus.ensures ∙ c.in_ok-check_modulus.was)
 
-pub returns-in_err-r : goal.returns-in_err-r
-returns-in_err-r c =
-    let e : c.from_residual-in_err-r.result ≡ Err (naming_none (reason_of c.in_err-r.field-0.0)) = search rules in
+pub returns-in_err-next : goal.returns-in_err-next
+returns-in_err-next c =
+    let e : c.from_residual-in_err-next.result ≡ Err (naming_none (reason_of c.in_err-next.field-0.0)) = search rules in
     rw (e, ← c.modulus-m.ensures)
     (law.judge_fault (sym c.check_modulus.ensures ∙ c.in_ok-check_modulus.was) (record { some = grind arith; few = omega arith })
-    c.in_err-r.field-0.0 c.in_err-r.ensures refl)
+    c.in_err-next.field-0.0 c.in_err-next.ensures refl)
 
-pub returns-then-r-text : goal.returns-then-r-text
-returns-then-r-text c =
-    rw (c.into-then-r-text.ensures, ← c.modulus-m.ensures)
+pub returns-then-next-text : goal.returns-then-next-text
+returns-then-next-text c =
+    rw (c.into-then-next-text.ensures, ← c.modulus-m.ensures)
     (law.judge_rest (sym c.check_modulus.ensures ∙ c.in_ok-check_modulus.was) (record { some = grind arith; few = omega arith })
-    (rw c.new.ensures at c.in_ok-r.ensures) c.if-r-text.true refl)
+    (rw c.new.ensures at c.in_ok-next.ensures) c.if-next-text.true refl)
 
 pub returns-in_err-v : goal.returns-in_err-v
 returns-in_err-v c =
-    let none : c.in_ok-r.r.built ≡ None = grind arith in
+    let none : c.sum.new.built ≡ None = grind arith in
     let e : c.from_residual-in_err-v.result ≡ Err (naming_none Limit) = search rules in
     rw (e, ← c.modulus-m.ensures)
     (law.judge_high (sym c.check_modulus.ensures ∙ c.in_ok-check_modulus.was) (record { some = grind arith; few = omega arith })
-    (rw (none, c.new.ensures) at c.in_ok-r.ensures) (omega arith) refl)
+    (rw (none, c.new.ensures) at c.in_ok-next.ensures) (omega arith) refl)
 
 pub returns-in_err-check_polynomial : goal.returns-in_err-check_polynomial
 returns-in_err-check_polynomial c =
-    let some : c.in_ok-r.r.built ≡ Some c.in_ok-v.v = grind arith in
+    let some : c.sum.new.built ≡ Some c.in_ok-v.v = grind arith in
     let e : c.from_residual-in_err-check_polynomial.result ≡ Err c.in_err-check_polynomial.field-0.0 = search rules in
     rw (e, ← c.modulus-m.ensures)
     (law.judge_read (sym c.check_modulus.ensures ∙ c.in_ok-check_modulus.was) (record { some = grind arith; few = omega arith })
-    (rw (some, c.new.ensures) at c.in_ok-r.ensures) (omega arith) (sym c.check_polynomial.ensures ∙ c.in_err-check_polynomial.was) refl)
+    (rw (some, c.new.ensures) at c.in_ok-next.ensures) (omega arith) (sym c.check_polynomial.ensures ∙ c.in_err-check_polynomial.was) refl)
 
 pub returns : goal.returns
 returns c =
-    let some : c.in_ok-r.r.built ≡ Some c.in_ok-v.v = grind arith in
+    let some : c.sum.new.built ≡ Some c.in_ok-v.v = grind arith in
     rw (← c.modulus-m.ensures)
     (law.judge_read (sym c.check_modulus.ensures ∙ c.in_ok-check_modulus.was) (record { some = grind arith; few = omega arith })
-    (rw (some, c.new.ensures) at c.in_ok-r.ensures) (omega arith) (sym c.check_polynomial.ensures ∙ c.in_ok-check_polynomial.was) refl)
+    (rw (some, c.new.ensures) at c.in_ok-next.ensures) (omega arith) (sym c.check_polynomial.ensures ∙ c.in_ok-check_polynomial.was) refl)
