@@ -1,6 +1,6 @@
 -- What a function tells and writes of the result of an operation: its answer, or zeros beside the refusal.
 --
---   checked_told, answer_told, parts_told, made_told, verdict_told, chained_told, numbered_told, chosen_told, sheet_told, read_told, text_told
+--   checked_told, answer_told, parts_told, made_told, chained_told, numbered_told, chosen_told, sheet_told, read_told, text_told
 --       each by the two cases of the result
 use mathlib.Core.Path.{◌≡◌, refl, ◌∙◌, ap}
 use mathlib.Core.List.{List, [], ◌∷◌}

@@ -55,7 +55,7 @@ pub extern "C" fn desk_check(
     told(x.err())
 }
 
-// g(h).
+// g(h). The longest answers are matched, here and below: by unwrap_or they, and a refusal's zeros, would be copied once more.
 #[unsafe(no_mangle)]
 pub extern "C" fn desk_compose(
     m: u32,
@@ -65,10 +65,16 @@ pub extern "C" fn desk_compose(
 ) -> Refused
     ensures { AnswersAs (λ x. x ≡ compose (modulus m) g.now h.now) result f.new }
 {
-    let x = pair::compose(m, *g, *h);
-    let p = x.unwrap_or(ZEROS);
-    *f = p;
-    told(x.err())
+    match pair::compose(m, *g, *h) {
+        Ok(p) => {
+            *f = p;
+            told(None)
+        }
+        Err(refusal) => {
+            *f = ZEROS;
+            told(Some(refusal))
+        }
+    }
 }
 
 // The left part of f for the right part h.
@@ -81,10 +87,16 @@ pub extern "C" fn desk_left_part(
 ) -> Refused
     ensures { AnswersAs (LeftPartOf (modulus m) f.now h.now) result g.new }
 {
-    let x = pair::left_part(m, *f, *h);
-    let p = x.unwrap_or(ZEROS);
-    *g = p;
-    told(x.err())
+    match pair::left_part(m, *f, *h) {
+        Ok(p) => {
+            *g = p;
+            told(None)
+        }
+        Err(refusal) => {
+            *g = ZEROS;
+            told(Some(refusal))
+        }
+    }
 }
 
 // f split at the left degree r.
@@ -98,13 +110,20 @@ pub extern "C" fn desk_split(
 ) -> Refused
     ensures { PartsAs (Splits (modulus m) f.now r) result g.new h.new }
 {
-    let x = pair::split(m, *f, r);
-    let p = x.unwrap_or_default();
-    let left = p.left;
-    let right = p.right;
-    *g = left;
-    *h = right;
-    told(x.err())
+    match pair::split(m, *f, r) {
+        Ok(p) => {
+            let left = p.left;
+            let right = p.right;
+            *g = left;
+            *h = right;
+            told(None)
+        }
+        Err(refusal) => {
+            *g = ZEROS;
+            *h = ZEROS;
+            told(Some(refusal))
+        }
+    }
 }
 
 // Whether f splits at the left degree r, 1 or 0, and the highest power at which the forced pair, composed, and f differ.
@@ -264,12 +283,19 @@ pub extern "C" fn desk_read_sheet(
 ) -> Refused
     ensures { ReadAs sheet.now area.old area.new result modulus.new f.new }
 {
-    let x = sheet_reader::read(sheet, area);
-    let c = x.unwrap_or_default();
-    let p = c.polynomial;
-    *modulus = c.modulus;
-    *f = p;
-    told(x.err())
+    match sheet_reader::read(sheet, area) {
+        Ok(c) => {
+            let p = c.polynomial;
+            *modulus = c.modulus;
+            *f = p;
+            told(None)
+        }
+        Err(refusal) => {
+            *modulus = 0;
+            *f = ZEROS;
+            told(Some(refusal))
+        }
+    }
 }
 
 // The polynomial that a text means; zeros after a refusal.

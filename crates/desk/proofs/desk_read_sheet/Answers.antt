@@ -1,5 +1,9 @@
+use mathlib.Core.Path.{refl}
+use Rattle.std.specs.Prelude.{Err}
+use Rattle.algebra.specs.Polynomial.{limit, terms}
 use Rattle.desk.proofs.Telling.{read_told}
 use Rattle.desk.proofs.desk_read_sheet.Goals as goal
 
-pub returns : goal.returns
-returns c = read_told c.read-x.result c.read-x.ensures c.unwrap_or_default-c.ensures (rw c.err.ensures.value at c.told.ensures)
+pub returns-in-Err : goal.returns-in-Err
+unfolding terms limit
+returns-in-Err c = read_told (Err c.in-Err.refusal) c.in-Err.ensures refl c.told-in-Err.ensures

@@ -1,5 +1,10 @@
+use mathlib.Core.Path.{refl}
+use Rattle.std.specs.Prelude.{Err}
+use Rattle.algebra.specs.Polynomial.{limit, terms}
+use Rattle.polynomial.specs.Answers.{zero_pair}
 use Rattle.desk.proofs.Telling.{parts_told}
 use Rattle.desk.proofs.desk_split.Goals as goal
 
-pub returns : goal.returns
-returns c = parts_told c.split-x.result c.split-x.ensures c.unwrap_or_default-p.ensures (rw c.err.ensures.value at c.told.ensures)
+pub returns-in-Err : goal.returns-in-Err
+unfolding terms limit
+returns-in-Err c = parts_told {p = zero_pair} (Err c.in-Err.refusal) c.in-Err.ensures refl c.told-in-Err.ensures
