@@ -10,7 +10,7 @@ ghost use Rattle.binomial.specs.Triangle.{rows, triangle, HasRow};
 // No left degree reaches it.
 pub const ROWS: usize = 64;
 
-const ENTRIES: usize = ROWS * (ROWS + 1) / 2;
+pub const ENTRIES: usize = ROWS * (ROWS + 1) / 2;
 
 const BINOMIALS: [u64; ENTRIES] = [
     1,

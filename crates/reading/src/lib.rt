@@ -111,20 +111,32 @@ pub fn keep(buf: &mut [u8], from: usize, n: usize)
     buf.copy_within(from..from + n, 0);
 }
 
-// Writes what is made of the bytes that are listed after `taken`. It is the only write, and `listed` is there for what it requires:
-// that what is put is made of these bytes, numbered on.
-fn put<M: Maker>(rt: &HostRuntime, taken: usize, listed: &[u8], made: &[u8]) -> Result<(), Failed>
-    requires { (taken < most_read) × M.makes listed.now (number_after taken) made.now }
+// Writes what was made of a read after `taken` bytes. It is the only write, and one that failed is told.
+pub fn put(rt: &HostRuntime, program: &[u8], taken: usize, bytes: &[u8]) -> Result<(), Failed>
+    requires { taken < most_read }
 {
-    let Ok(()) = rt.stdout().write_all(made) else {
+    let Ok(()) = rt.stdout().write_all(bytes) else {
         return Err(tell(
             rt,
-            M::NAME,
+            program,
             b": writing failed at or after record ",
             number(taken),
         ));
     };
     Ok(())
+}
+
+// Puts what is made of the bytes that are listed after `taken`. A turn puts by it alone, and `listed` is there for what it requires:
+// that what is put is made of these bytes, numbered on.
+fn put_made<M: Maker>(
+    rt: &HostRuntime,
+    taken: usize,
+    listed: &[u8],
+    made: &[u8],
+) -> Result<(), Failed>
+    requires { (taken < most_read) × M.makes listed.now (number_after taken) made.now }
+{
+    put(rt, M::NAME, taken, made)
 }
 
 // What a read that brought `more` bytes leads to, after `taken` bytes: what is made of the records that are whole by it is put, and
@@ -144,7 +156,7 @@ fn step<M: Maker>(
     let kept = taken % record::BYTES;
     let to = listed(kept, more);
     let n = maker.make(taken, &buf[..to], out);
-    let is_put = put::<M>(rt, taken, &buf[..to], &out[..n]);
+    let is_put = put_made::<M>(rt, taken, &buf[..to], &out[..n]);
     keep(buf, to, kept + more - to);
     is_put
 }

@@ -14,13 +14,13 @@ pub slice_bounds-make-end-2 : goal.slice_bounds-make-end-2
 unfolding record_bytes terms limit
 slice_bounds-make-end-2 g c = sym (length-take-le _ _ (omega arith))
 
-pub slice_bounds-put-end : goal.slice_bounds-put-end
+pub slice_bounds-put_made-end : goal.slice_bounds-put_made-end
 unfolding record_bytes terms limit
-slice_bounds-put-end g c = omega arith
+slice_bounds-put_made-end g c = omega arith
 
-pub slice_bounds-put-end-2 : goal.slice_bounds-put-end-2
+pub slice_bounds-put_made-end-2 : goal.slice_bounds-put_made-end-2
 unfolding record_bytes terms limit
-slice_bounds-put-end-2 g c = sym (length-take-le _ _ (omega arith))
+slice_bounds-put_made-end-2 g c = sym (length-take-le _ _ (omega arith))
 
 pub keep-requires : goal.keep-requires
 unfolding record_bytes terms limit
