@@ -14,9 +14,9 @@
  * it reads. What it only reads may overlap: g and h may be one polynomial. Nobody else writes any of it before the call
  * returns. The library keeps no pointer and has no state, so threads may call it at once; it calls memcpy, memmove and memset.
  *
- * Stack that a call takes, about (stack.c measures it, docs/STACK.md has the bytes): desk_read_text 78 KB, desk_nth_chain 37 KB,
- * desk_count_chains and desk_chain 36 KB, desk_split 11 KB, desk_left_part and desk_quick 6 KB, desk_change_pair and
- * desk_write_text 5 KB, desk_change_polynomial 3 KB, desk_compose and desk_read_sheet 2 KB, every other 1 KB. A thread wants some
+ * Stack that a call takes, about (stack.c measures it, docs/STACK.md has the bytes): desk_read_text 49 KB, desk_nth_chain and
+ * desk_count_chains 36 KB, desk_chain 33 KB, desk_split 11 KB, desk_change_pair, desk_left_part and desk_quick 6 KB,
+ * desk_change_polynomial and desk_write_text 4 KB, desk_read_sheet 3 KB, desk_compose 2 KB, every other 1 KB. A thread wants some
  * 10 KB more for itself. */
 #ifndef DESK_H
 #define DESK_H
