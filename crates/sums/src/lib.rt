@@ -91,7 +91,7 @@ fn leading(
 }
 
 // A sum: products with + or - between them. A reader answers the next place; what was built, or none, is lent, so that no reader
-// copies it to hand it on.
+// copies it to hand it on. After a fault nothing is said of it.
 #[cycle(base_factor_leading_product_sum)]
 pub fn sum(
     s: &[u8],
